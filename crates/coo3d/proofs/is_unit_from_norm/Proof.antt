@@ -1,0 +1,19 @@
+use Rattle.coo3d.specs.Vectors.{isUnit}
+use borrow.Author.Needs.{needs}
+use Rattle.coo3d.proofs.is_unit_from_norm.Statement.{statement}
+use Rattle.coo3d.proofs.is_unit_from_norm.Tie as tie
+use Rattle.coo3d.proofs.is_unit_from_norm.Reads as reads
+use Rattle.coo3d.proofs.is_unit_from_norm.Lts as lts
+use Rattle.float.proofs.abs.Reads as abs-reads
+
+-- src/lib.rt:61:5
+abs-requires : tie.Need-abs-requires
+abs-requires c κs = search needs
+
+-- src/lib.rt:58:1
+returns : tie.Need-returns
+unfolding isUnit
+returns c = simp (c .abs .ensures)
+
+pub is-unit-from-norm-spec : {M : Type 1} → statement M
+is-unit-from-norm-spec = tie.close (tie.spec abs-requires returns)

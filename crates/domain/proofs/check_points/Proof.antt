@@ -1,0 +1,120 @@
+use Prim.Native.Nat.{ℕ, _≤_, _<_, _-_}
+use native.Mathlib.Omega.{arith}
+use mathlib.Core.Path.{_≡_, sym, ap, _∙_}
+use borrow.Author.Needs.{needs}
+use lib.ListN.{length, take, length-set}
+use Rattle.domain.specs.Checks.{pointAnswer, pointsFrom}
+use Rattle.domain.proofs.Points.{soFar, far-start, far-good, far-bad, far-end, none-given, too-many, counted}
+use Rattle.domain.proofs.check_points.Statement.{statement}
+use Rattle.domain.proofs.check_points.Tie as tie
+use Rattle.domain.proofs.check_points.Reads as reads
+use Rattle.domain.proofs.check_points.Lts as lts
+use Rattle.domain.proofs.check_point.Reads as check-point-reads
+
+abbrev Inv-loop : tie.InvT-loop
+Inv-loop count points out₀ i₀ out i = (i ≤ count) × ((length out ≡ 64) × (soFar points count i out ≡ pointsFrom 0 (take count points)))
+
+abbrev μ-loop : tie.MeasureT-loop
+μ-loop count points out₀ i₀ out i = count - i
+
+-- there are as many points as are counted
+long : (c : tie.Start Inv-loop μ-loop) → c .args .count ≤ 64 → c .args .count ≤ length (c .args .t1)
+long c h = let e : length (c .args .t1) ≡ 64 = search needs in omega arith
+
+-- src/lib.rt:70:9
+returns : tie.Need-returns Inv-loop μ-loop
+returns c = sym (none-given _ _ (c .if1 .taken))
+
+-- src/lib.rt:76:9
+returns-2 : tie.Need-returns-2 Inv-loop μ-loop
+returns-2 c = sym (too-many _ _ (c .before .if1 .left) (c .if2 .taken))
+
+-- src/lib.rt:83:5
+loop-holds : tie.Need-loop-holds Inv-loop μ-loop
+loop-holds c = (search needs, (search needs, far-start _ _ _))
+
+-- src/lib.rt:84:17
+mul-p : tie.Need-mul-p Inv-loop μ-loop
+mul-p c = search needs
+
+-- src/lib.rt:84:17
+array-copy-out-p : tie.Need-array-copy-out-p Inv-loop μ-loop
+array-copy-out-p c = search needs
+
+-- src/lib.rt:85:36
+check-point-requires : tie.Need-check-point-requires Inv-loop μ-loop
+check-point-requires c κs = search needs
+
+-- src/lib.rt:85:31
+enum-known-q : tie.Need-enum-known-q Inv-loop μ-loop
+enum-known-q c = search needs
+
+-- src/lib.rt:87:17
+enum-told : tie.Need-enum-told Inv-loop μ-loop
+enum-told c = search needs
+
+-- src/lib.rt:86:13
+returns-3 : tie.Need-returns-3 Inv-loop μ-loop
+returns-3 c =
+    let s = c .before .before .before .before .before .before .before .before in
+    let l = c .before .before .before .before .before .loop in
+    let told = ap pointAnswer (sym (c .enum-told .given .1)) ∙ c .before .before .check-point .ensures in
+    sym (far-bad _ _ _ (l .out) _ (long s (search needs)) (search needs) _ _ told) ∙ l .inv .1 .1 ∙ sym (counted _ _ (search needs) (search needs))
+
+-- src/lib.rt:91:9
+mul-out : tie.Need-mul-out Inv-loop μ-loop
+mul-out c = search needs
+
+-- src/lib.rt:91:9
+array-set-from-out : tie.Need-array-set-from-out Inv-loop μ-loop
+array-set-from-out c = search needs
+
+-- src/lib.rt:92:9
+add-i : tie.Need-add-i Inv-loop μ-loop
+add-i c = search needs
+
+-- src/lib.rt:83:5
+loop-less : tie.Need-loop-less Inv-loop μ-loop
+loop-less c = search needs
+
+-- src/lib.rt:83:5
+loop-again : tie.Need-loop-again Inv-loop μ-loop
+loop-again c =
+    let s = c .before .before .before .before .before .before .before .before .before in
+    let l = c .before .before .before .before .before .before .loop in
+    let good = sym (c .before .before .before .check-point .ensures) ∙ ap pointAnswer (c .before .q .given .1) in (
+      search needs,
+      (
+        length-set (l .out) (l .i) _ ∙ l .inv .1 .0,
+        sym (far-good _ _ _ (l .out) _ (long s (search needs)) (search needs) _ (search needs) good) ∙ l .inv .1 .1,
+      ),
+    )
+
+-- src/lib.rt:66:1
+returns-4 : tie.Need-returns-4 Inv-loop μ-loop
+returns-4 c =
+    let s = c .before .before .before .before in
+    let l = c .before .loop in
+    sym (far-end _ _ _ (l .out) (long s (search needs)) (search needs)) ∙ l .inv .1 .1 ∙ sym (counted _ _ (search needs) (search needs))
+
+pub check-points-spec : {M : Type 1} → statement M
+check-points-spec =
+    tie.close
+    (tie.spec
+    Inv-loop
+    μ-loop
+    returns
+    returns-2
+    loop-holds
+    mul-p
+    array-copy-out-p
+    check-point-requires
+    enum-known-q
+    enum-told
+    returns-3
+    mul-out
+    array-set-from-out
+    add-i
+    loop-less
+    loop-again
+    returns-4)

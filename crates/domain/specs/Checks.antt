@@ -1,0 +1,38 @@
+-- What the checks answer.
+use Prim.Native.Nat.{ℕ, suc}
+use mathlib.Core.Bool.{not}
+use mathlib.Core.List.{List, [], _∷_}
+use lib.Dec.{eqb, ltb}
+use lib.ListN.{take}
+use Rattle.coo3d.specs.declared.Coo3D.{Coo3D}
+use Rattle.coo3d.specs.declared.Vect3.{Vect3}
+use Rattle.refusal.specs.Answer.{Answer, answered, refused, refusedFor, refuseIf, andThen}
+use Rattle.domain.specs.declared.PointCheck.{PointCheck}
+use Rattle.domain.specs.declared.PointCheck.the-variants as point
+use Rattle.domain.specs.declared.VectorCheck.{VectorCheck}
+use Rattle.domain.specs.declared.VectorCheck.the-variants as vector
+use Rattle.domain.specs.Domain.{inDomain, vectorInDomain}
+
+abbrev pub pointAnswer : PointCheck → Answer Coo3D
+pointAnswer (point.Point p) = answered p
+pointAnswer (point.Refused cause) = refusedFor cause
+
+abbrev pub vectorAnswer : VectorCheck → Answer Vect3
+vectorAnswer (vector.Vector v) = answered v
+vectorAnswer (vector.Refused cause) = refusedFor cause
+
+-- the point as it is, its -0 kept; outside the domain 1, with its index
+unfoldable pub pointAt : ℕ → Coo3D → Answer Coo3D
+pointAt index p = refuseIf (not (inDomain p)) 1 (index ∷ []) (answered p)
+
+unfoldable pub vectorAt : ℕ → Vect3 → Answer Vect3
+vectorAt index v = refuseIf (not (vectorInDomain v)) 1 (index ∷ []) (answered v)
+
+-- the points in order, numbered from `index`: refused at the lowest bad one
+unfoldable pub pointsFrom : ℕ → List Coo3D → Answer (List Coo3D)
+pointsFrom index [] = answered []
+pointsFrom index (p ∷ ps) = andThen (pointAt index p) (λ q. andThen (pointsFrom (suc index) ps) (λ qs. answered (q ∷ qs)))
+
+-- the first `count` of the points: none is 2, more than 64 are 3, then a point outside the domain is 1
+unfoldable pub pointsOf : List Coo3D → ℕ → Answer (List Coo3D)
+pointsOf points count = refuseIf (eqb count 0) 2 [] (refuseIf (ltb 64 count) 3 [] (pointsFrom 0 (take count points)))

@@ -1,0 +1,49 @@
+// The doubles and float helpers that the geometry shares: what upstream takes from f64 and from `Customf64`.
+ghost use mathlib.Core.Path.{_≡_};
+ghost use Rattle.float.specs.Doubles.{absOf, isFinite, inclusive, halfOpen, maxOf};
+
+pub const PI: f64 = 3.141592653589793;
+
+pub const HALF_PI: f64 = 0.5 * PI;
+
+pub const TWO_PI: f64 = 2.0 * PI;
+
+pub fn abs(x: f64) -> f64
+    ensures { λ r. ⌜ r ≡ absOf x ⌝ }
+{
+    if x < 0.0 {
+        -x
+    } else if x == 0.0 {
+        0.0
+    } else {
+        x
+    }
+}
+
+// The difference is 0 for a finite x, and a NaN for any other.
+pub fn is_finite(x: f64) -> bool
+    ensures { λ r. ⌜ r ≡ isFinite x ⌝ }
+{
+    x - x == 0.0
+}
+
+// The larger one, and a where b is a NaN: `f64::max` where a is no NaN.
+pub fn max(a: f64, b: f64) -> f64
+    ensures { λ r. ⌜ r ≡ maxOf a b ⌝ }
+{
+    if a < b { b } else { a }
+}
+
+// `(low..=high).contains(&x)`
+pub fn within(low: f64, x: f64, high: f64) -> bool
+    ensures { λ r. ⌜ r ≡ inclusive low x high ⌝ }
+{
+    (low <= x) & (x <= high)
+}
+
+// `(low..high).contains(&x)`
+pub fn within_half_open(low: f64, x: f64, high: f64) -> bool
+    ensures { λ r. ⌜ r ≡ halfOpen low x high ⌝ }
+{
+    (low <= x) & (x < high)
+}

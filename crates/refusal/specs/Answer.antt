@@ -1,0 +1,32 @@
+-- What a call ends with, in document 01's terms: a result, or a refusal's number with the values returned beside it.
+-- Each enum that a call answers has a definition that takes its cases to this type, and the call's `ensures` is stated through it.
+use Prim.Native.Nat.{ℕ}
+use mathlib.Core.Bool.{Bool, true, false}
+use mathlib.Core.List.{List}
+use Rattle.refusal.specs.declared.Cause.{Cause}
+use Rattle.refusal.specs.declared.Outcome.{Outcome}
+use Rattle.refusal.specs.declared.Outcome.the-variants.{Done, Refused}
+use Rattle.refusal.specs.Table.{numberOf, valuesOf}
+
+pub data Answer (A : Type 0) : Type 0 where
+  answered : A → Answer A
+  refused : ℕ → List ℕ → Answer A
+
+-- a refusal by its cause
+abbrev pub refusedFor : {A : Type 0} → Cause → Answer A
+refusedFor cause = refused (numberOf cause) (valuesOf cause)
+
+-- an outcome beside a result, which counts only where the call is done
+abbrev pub outcomeOf : {A : Type 0} → Outcome → A → Answer A
+outcomeOf Done a = answered a
+outcomeOf (Refused cause) a = refusedFor cause
+
+-- refused with this number and these values where the test holds, and else what follows
+abbrev pub refuseIf : {A : Type 0} → Bool → ℕ → List ℕ → Answer A → Answer A
+refuseIf true number values next = refused number values
+refuseIf false number values next = next
+
+-- goes on with the result, or passes the refusal on
+abbrev pub andThen : {A B : Type 0} → Answer A → (A → Answer B) → Answer B
+andThen (answered a) next = next a
+andThen (refused number values) next = refused number values

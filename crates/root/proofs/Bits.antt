@@ -1,0 +1,72 @@
+-- What `sqrt` asks of the bit patterns: which are no NaN's, and how far a subnormal's digits are shifted up. Assumes nothing.
+use mathlib.Core.Path.{_≡_, refl, sym, ap, _∙_, subst}
+use mathlib.Core.Bool.{Bool, true, false, not, true≢false}
+use Prim.Native.Nat.{ℕ, zero, suc, _+_, _-_, _*_, _/_, _%_, _^_, _≤_, _<_}
+use native.Mathlib.Nat.{le-trans, lt-of-not-le, lt-of-le-of-lt, not-le-of-lt, mul-assoc, mul-le-mul-right}
+use native.Mathlib.Omega.{arith}
+use lib.Dec.{T, ltb, ltb→lt, not-T}
+use lib.Pow.{pow-add, pow-mono, shl-lt}
+use lib.Count.{leadingZeros, leading-top}
+use lib.Ieee.{Float, nan, inf, fin, binary64, ofBits, nanBits, isNan, ne, div}
+use lib.Ieee.Bits.{nanBits-above}
+use lib.Ieee.Compare.{nan-differs, differs-from-itself}
+use Rattle.root.specs.Root.{sqrtOf}
+
+pub not-nan : (a : Float) → ne a a ≡ false → T (not (isNan a))
+unfolding isNan
+not-nan nan h = absurd (true≢false (sym nan-differs ∙ h))
+not-nan (inf s) h = tt
+not-nan (fin s m e) h = tt
+
+at-nan : sqrtOf nan ≡ nan
+unfolding sqrtOf
+at-nan = refl
+
+pub of-nan : (a : Float) → ne a a ≡ true → a ≡ sqrtOf a
+of-nan a h = let e : a ≡ nan = differs-from-itself a (subst T (sym h) tt) in e ∙ sym (ap sqrtOf e ∙ at-nan)
+
+pub zero-by-zero : div binary64 (ofBits binary64 0) (ofBits binary64 0) ≡ nan
+unfolding div ofBits
+zero-by-zero = refl
+
+pub no-nan-bits : (r : ℕ) → r < 2047 * 2 ^ 52 → T (not (nanBits binary64 r))
+no-nan-bits r h =
+    subst (λ (b : Bool). T (not b)) (sym (nanBits-above binary64 r))
+    (not-T (ltb (2047 * 2 ^ 52) (r % 2 ^ 63)) (λ (u : T (ltb (2047 * 2 ^ 52) (r % 2 ^ 63))). no r h (ltb→lt (2047 * 2 ^ 52) (r % 2 ^ 63) u)))
+  where
+    no : (r : ℕ) → r < 2047 * 2 ^ 52 → 2047 * 2 ^ 52 < r % 2 ^ 63 → ⊥
+    no r h k = omega arith
+
+-- a subnormal's digits b, shifted up by z - 11, for its z leading zeros
+pub record Shifted (b z : ℕ) : Type 0 where
+  pub low : 11 ≤ z
+  pub high : z ≤ 63
+  pub long : 2 ^ 52 ≤ b * 2 ^ (z - 11)
+  pub short : b * 2 ^ (z - 11) < 2 ^ 53
+  pub units : b * 2 ^ 52 ≡ b * 2 ^ (z - 11) * 2 ^ (63 - z)
+
+shifts : (b z j : ℕ) → z + suc j ≡ 64 → 2 ^ j ≤ b → b < 2 ^ suc j → j < 52 → Shifted b z
+shifts b z j e g l k = record {
+  low = omega arith;
+  high = omega arith;
+  long = subst (λ (x : ℕ). x ≤ b * 2 ^ (z - 11)) (sym (pow-add 2 j (z - 11)) ∙ ap (λ (x : ℕ). 2 ^ x) at-52) (mul-le-mul-right (2 ^ (z - 11)) g);
+  short = subst (λ (x : ℕ). b * 2 ^ (z - 11) < 2 ^ x) at-53 (shl-lt (suc j) (z - 11) l);
+  units = sym (mul-assoc b (2 ^ (z - 11)) (2 ^ (63 - z)) ∙ ap (λ (x : ℕ). b * x) (sym (pow-add 2 (z - 11) (63 - z)) ∙ ap (λ (x : ℕ). 2 ^ x) at-both));
+}
+  where
+    at-52 : j + (z - 11) ≡ 52
+    at-52 = omega arith
+
+    at-53 : suc j + (z - 11) ≡ 53
+    at-53 = omega arith
+
+    at-both : z - 11 + (63 - z) ≡ 52
+    at-both = omega arith
+
+pub shifted : (b : ℕ) → 0 < b → b < 2 ^ 52 → Shifted b (leadingZeros 64 b)
+shifted b p l =
+    let t = leading-top 64 b p (under b l) in
+    shifts b (leadingZeros 64 b) (t .0) (t .1) (t .2) (t .3) (lt-of-not-le (λ (g : 52 ≤ t .0). not-le-of-lt l (le-trans (pow-mono g) (t .2))))
+  where
+    under : (b : ℕ) → b < 2 ^ 52 → b < 2 ^ 64
+    under b l = omega arith

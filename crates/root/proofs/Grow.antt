@@ -1,0 +1,46 @@
+-- A whole root grows by a binary digit as its number grows by a digit in base four. Over numbers of any size. Assumes nothing.
+use mathlib.Core.Path.{_≡_, refl, sym, ap, _∙_, subst}
+use Prim.Native.Nat.{ℕ, zero, suc, _+_, _-_, _*_, _/_, _%_, _^_, _≤_, _<_}
+use native.Mathlib.Nat.{mul-add, add-mul, mul-one, one-mul, mul-mul-mul-comm, mul-le-mul, pow-succ', le-antisymm, lt-of-not-le, le-of-suc-le-suc}
+use native.Mathlib.Numerals.{add-one}
+use native.Mathlib.Omega.{arith}
+use Rattle.root.specs.Whole.{IsRoot}
+
+pub next-square : (x : ℕ) → (x + 1) * (x + 1) ≡ x * x + 2 * x + 1
+next-square x = simp (mul-add, add-mul, mul-one, one-mul) (omega arith)
+
+pub double-square : (s : ℕ) → (2 * s) * (2 * s) ≡ 4 * (s * s)
+double-square s = mul-mul-mul-comm 2 s 2 s
+
+module _ {n s r : ℕ} (d : ℕ) (h : IsRoot n s r) where
+  -- the next digit is 0
+  pub stays : 4 * r + d < 4 * s + 1 → IsRoot (4 * n + d) (2 * s) (4 * r + d)
+  stays l = record { square = omega (arith, double-square s); small = omega arith }
+
+  -- the next digit is 1
+  pub lifts : d < 4 → 4 * s + 1 ≤ 4 * r + d → IsRoot (4 * n + d) (2 * s + 1) (4 * r + d - (4 * s + 1))
+  lifts k l = record { square = omega (arith, double-square s, next-square (2 * s)); small = omega arith }
+
+-- ---- a number has one whole root
+
+pub squares-mono : {a b : ℕ} → a ≤ b → a * a ≤ b * b
+squares-mono h = mul-le-mul h h
+
+at-most : {n s r t q : ℕ} → IsRoot n s r → IsRoot n t q → s ≤ t
+at-most {n} {s} {r} {t} {q} h k = le-of-suc-le-suc (lt-of-not-le (λ (g : suc t ≤ s). above (subst (λ (x : ℕ). x * x ≤ s * s) (sym (add-one t)) (squares-mono g))))
+  where
+    above : (t + 1) * (t + 1) ≤ s * s → ⊥
+    above g = omega (arith, next-square t)
+
+pub one-root : {n s r t q : ℕ} → IsRoot n s r → IsRoot n t q → s ≡ t
+one-root h k = le-antisymm (at-most h k) (at-most k h)
+
+-- ---- powers
+
+pub pow-next : (b i : ℕ) → b ^ (i + 1) ≡ b * b ^ i
+pow-next b i = ap (λ (x : ℕ). b ^ x) (add-one i) ∙ pow-succ' b i
+
+pub four-pow : (h : ℕ) → 4 ^ h ≡ 2 ^ h * 2 ^ h
+four-pow zero = refl
+four-pow (suc h) =
+    pow-succ' 4 h ∙ ap (λ (x : ℕ). 4 * x) (four-pow h) ∙ sym (double-square (2 ^ h)) ∙ ap (λ (x : ℕ). x * x) (sym (pow-succ' 2 h))

@@ -1,0 +1,18 @@
+use Rattle.zone.specs.Zone.{containsExclusive}
+use Rattle.zone.proofs.Zone.contains_exclusive.Statement.{statement}
+use Rattle.zone.proofs.Zone.contains_exclusive.Tie as tie
+use Rattle.zone.proofs.Zone.contains_exclusive.Reads as reads
+use Rattle.zone.proofs.Zone.contains_exclusive.Lts as lts
+
+-- src/lib.rt:124:5
+returns : tie.Need-returns
+unfolding containsExclusive
+returns c = simp (c .before .before .if1 .taken)
+
+-- src/lib.rt:124:5
+returns-2 : tie.Need-returns-2
+unfolding containsExclusive
+returns-2 c = simp (c .before .before .if1 .left)
+
+pub contains-exclusive-spec : {M : Type 1} → statement M
+contains-exclusive-spec = tie.close (tie.spec returns returns-2)
