@@ -1,5 +1,6 @@
 // The doubles and float helpers that the geometry shares: what upstream takes from f64 and from `Customf64`.
 ghost use mathlib.Core.Path.{_≡_};
+ghost use lib.Ieee.{binary64, ofBits, toBits};
 ghost use Rattle.float.specs.Doubles.{absOf, isFinite, inclusive, halfOpen, maxOf};
 
 pub const PI: f64 = 3.141592653589793;
@@ -46,4 +47,24 @@ pub fn within_half_open(low: f64, x: f64, high: f64) -> bool
     ensures { λ r. ⌜ r ≡ halfOpen low x high ⌝ }
 {
     (low <= x) & (x < high)
+}
+
+// The double of a bit pattern: every NaN pattern is a NaN.
+pub fn from_bits(bits: u64) -> f64
+    ensures { λ r. ⌜ r ≡ ofBits binary64 bits ⌝ }
+{
+    if bits % 0x8000_0000_0000_0000 > 0x7ff0_0000_0000_0000 {
+        return 0.0 / 0.0;
+    }
+    f64::from_bits(bits)
+}
+
+// The bit pattern of a double: a NaN is 7FF8000000000000.
+pub fn to_bits(x: f64) -> u64
+    ensures { λ r. ⌜ r ≡ toBits binary64 x ⌝ }
+{
+    if x != x {
+        return 0x7ff8_0000_0000_0000;
+    }
+    f64::to_bits(x)
 }

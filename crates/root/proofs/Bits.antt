@@ -1,22 +1,16 @@
 -- What `sqrt` asks of the bit patterns: which are no NaN's, and how far a subnormal's digits are shifted up. Assumes nothing.
 use mathlib.Core.Path.{_≡_, refl, sym, ap, _∙_, subst}
-use mathlib.Core.Bool.{Bool, true, false, not, true≢false}
+use mathlib.Core.Bool.{Bool, true, not}
 use Prim.Native.Nat.{ℕ, zero, suc, _+_, _-_, _*_, _/_, _%_, _^_, _≤_, _<_}
 use native.Mathlib.Nat.{le-trans, lt-of-not-le, lt-of-le-of-lt, not-le-of-lt, mul-assoc, mul-le-mul-right}
 use native.Mathlib.Omega.{arith}
 use lib.Dec.{T, ltb, ltb→lt, not-T}
 use lib.Pow.{pow-add, pow-mono, shl-lt}
 use lib.Count.{leadingZeros, leading-top}
-use lib.Ieee.{Float, nan, inf, fin, binary64, ofBits, nanBits, isNan, ne, div}
+use lib.Ieee.{Float, nan, binary64, nanBits, ne}
 use lib.Ieee.Bits.{nanBits-above}
-use lib.Ieee.Compare.{nan-differs, differs-from-itself}
+use lib.Ieee.Compare.{differs-from-itself}
 use Rattle.root.specs.Root.{sqrtOf}
-
-pub not-nan : (a : Float) → ne a a ≡ false → T (not (isNan a))
-unfolding isNan
-not-nan nan h = absurd (true≢false (sym nan-differs ∙ h))
-not-nan (inf s) h = tt
-not-nan (fin s m e) h = tt
 
 at-nan : sqrtOf nan ≡ nan
 unfolding sqrtOf
@@ -24,10 +18,6 @@ at-nan = refl
 
 pub of-nan : (a : Float) → ne a a ≡ true → a ≡ sqrtOf a
 of-nan a h = let e : a ≡ nan = differs-from-itself a (subst T (sym h) tt) in e ∙ sym (ap sqrtOf e ∙ at-nan)
-
-pub zero-by-zero : div binary64 (ofBits binary64 0) (ofBits binary64 0) ≡ nan
-unfolding div ofBits
-zero-by-zero = refl
 
 pub no-nan-bits : (r : ℕ) → r < 2047 * 2 ^ 52 → T (not (nanBits binary64 r))
 no-nan-bits r h =

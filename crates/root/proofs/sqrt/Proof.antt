@@ -8,9 +8,10 @@ use lib.Dec.{T}
 use lib.Count.{leadingZeros}
 use lib.Ieee.{Float, binary64, fits, ofBits, toBits}
 use lib.Ieee.Bits.{ofBits-toBits, toBits-lt}
+use Rattle.float.proofs.Nan.{not-nan, nan-made}
 use Rattle.root.specs.Whole.{nearRoot}
 use Rattle.root.specs.Root.{rootUnits, sqrtOf}
-use Rattle.root.proofs.Bits.{not-nan, of-nan, zero-by-zero, no-nan-bits, Shifted, shifted}
+use Rattle.root.proofs.Bits.{of-nan, no-nan-bits, Shifted, shifted}
 use Rattle.root.proofs.Units.{of-zero, of-minus-zero, of-top, of-negative, of-normal, of-subnormal, normal-units, root-is, under-infinity}
 use Rattle.root.proofs.sqrt.Statement.{statement}
 use Rattle.root.proofs.sqrt.Tie as tie
@@ -48,7 +49,7 @@ returns-3 c =
 returns-4 : tie.Need-returns-4
 returns-4 c =
     let s = c .before .before .before .before in
-    zero-by-zero ∙ sym (ap sqrtOf (sym (back s)) ∙ of-negative (toBits binary64 (s .args .a)) (c .if4 .taken) (in-range s))
+    nan-made ∙ sym (ap sqrtOf (sym (back s)) ∙ of-negative (toBits binary64 (s .args .a)) (c .if4 .taken) (in-range s))
 
 returns-5 : tie.Need-returns-5
 returns-5 c =
