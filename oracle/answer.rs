@@ -5,12 +5,30 @@ use std::io::{self, BufWriter, Write};
 use std::process::ExitCode;
 
 use stream::{
-    point_in_domain, read_request, status, write_double, write_word, zone_bounds_hold, Call, Next,
-    Words, KINDS, MOST_POINTS, POINT_WORDS,
+    answered, read_request, status, within, write_word, zone_bounds_hold, Call, Next, Outcome,
+    Words, CONTROL_POINT_IN, KINDS, MOST_POINTS, PARALLEL_BOUNDS, POINT_BOUNDS, POINT_WORDS,
+    VECTOR_BOUNDS, VECTOR_WORDS,
 };
 use upstream::sph_geom::cone::Cone;
-use upstream::sph_geom::coo3d::{Coo3D, Vec3};
+use upstream::sph_geom::coo3d::{Coo3D, LonLatT, UnitVect3, Vec3, Vect3};
 use upstream::sph_geom::zone::Zone;
+use upstream::sph_geom::{ContainsSouthPoleMethod, Polygon};
+
+/// A refusal's number, and the word that follows it where one does.
+#[derive(Clone, Copy)]
+enum Refusal {
+    Alone(u64),
+    With(u64, u64),
+}
+
+type Answer<T> = Result<T, Refusal>;
+
+/// What is kept from one request to the next.
+struct Kept {
+    /// A value of a wrong count is the refusal that every call on it gives.
+    region: Answer<Polygon>,
+    zone: Option<Zone>,
+}
 
 fn main() -> ExitCode {
     match answer_all() {
@@ -26,17 +44,94 @@ fn answer_all() -> io::Result<()> {
     let mut words = Words::new(io::stdin().lock());
     let mut out = BufWriter::with_capacity(1 << 20, io::stdout().lock());
     let mut request = Vec::new();
-    let mut zone = None;
+    let mut answer = Vec::new();
+    let mut kept = Kept {
+        region: Err(Refusal::Alone(status::NONE_GIVEN)),
+        zone: None,
+    };
     // A request that is not whole or not known ends the program, as the end of the input does.
     while let Next::Request(row) = read_request(&mut words, &mut request)? {
-        match KINDS[row].call {
-            Call::Root => write_double(&mut out, double(request[0]).sqrt())?,
-            Call::ZoneNew => zone_new(&mut out, &request, &mut zone)?,
-            Call::ZoneRest => zone_rest(&mut out, &request, &zone)?,
-            Call::BoundingCone => bounding_cone(&mut out, &request)?,
+        let kind = &KINDS[row];
+        answer.clear();
+        if kind.outcome == Outcome::Status {
+            answer.push(status::DONE);
+        }
+        if let Err(refusal) = answer_one(kind.call, &request, &mut kept, &mut answer) {
+            answer.clear();
+            match refusal {
+                Refusal::Alone(number) => answer.push(number),
+                Refusal::With(number, word) => answer.extend([number, word]),
+            }
+        }
+        for &word in &answer {
+            write_word(&mut out, word)?;
         }
     }
     out.flush()
+}
+
+/// Adds what follows a status of 0; what it adds before it refuses does not count.
+fn answer_one(call: Call, request: &[u64], kept: &mut Kept, answer: &mut Vec<u64>) -> Answer<()> {
+    match call {
+        Call::Build => kept.region = Ok(build(request)?),
+        Call::Region => dump(region(kept)?, answer),
+        Call::Contains => {
+            let region = region(kept)?;
+            let point = point(request, 0)?;
+            answer.push(u64::from(region.contains(&point)));
+        }
+        Call::ArcFirst => {
+            let region = region(kept)?;
+            let [a, b] = arc(request)?;
+            first(region.intersect_great_circle_arc(&a, &b), answer)?;
+        }
+        Call::ArcAll => {
+            let region = region(kept)?;
+            let [a, b] = arc(request)?;
+            all(&region.intersect_great_circle_arc_all(&a, &b), answer)?;
+        }
+        Call::IsIntersectingArc => {
+            let region = region(kept)?;
+            let [a, b] = arc(request)?;
+            carry(region.intersect_great_circle_arc(&a, &b))?;
+            answer.push(u64::from(region.is_intersecting_great_circle_arc(&a, &b)));
+        }
+        Call::GreatCircleAll => {
+            let region = region(kept)?;
+            let [x, y, z] = doubles(request);
+            if !within(&[x, y, z], &VECTOR_BOUNDS) {
+                return Err(Refusal::With(status::OUTSIDE_DOMAIN, 0));
+            }
+            let normal = UnitVect3::new_unsafe(x, y, z);
+            all(&region.intersect_great_circle_all(&normal), answer)?;
+        }
+        Call::ParallelFirst => {
+            let region = region(kept)?;
+            let [lat, sine, cosine] = parallel(request)?;
+            first(region.intersect_parallel(lat, sine, cosine), answer)?;
+        }
+        Call::ParallelAll => {
+            let region = region(kept)?;
+            let [lat, sine, cosine] = parallel(request)?;
+            all(&region.intersect_parallel_all(lat, sine, cosine), answer)?;
+        }
+        Call::IsIntersectingParallel => {
+            let region = region(kept)?;
+            let [lat, sine, cosine] = parallel(request)?;
+            carry(region.intersect_parallel(lat, sine, cosine))?;
+            let yes = region.is_intersecting_parallel(lat, sine, cosine);
+            answer.push(u64::from(yes));
+        }
+        Call::Root => answer.push(answered(double(request[0]).sqrt())),
+        Call::ZoneNew => kept.zone = Some(zone_new(request)?),
+        Call::ZoneRest => {
+            let none = Refusal::Alone(status::ZONE_BOUNDS);
+            zone_rest(kept.zone.as_ref().ok_or(none)?, request, answer);
+        }
+        Call::BoundingCone => bounding_cone(request, answer)?,
+        Call::RegionValue => kept.region = region_value(request),
+    }
+    Ok(())
 }
 
 #[inline]
@@ -44,22 +139,154 @@ fn double(word: u64) -> f64 {
     f64::from_bits(word)
 }
 
-fn zone_new<W: Write>(out: &mut W, request: &[u64], zone: &mut Option<Zone>) -> io::Result<()> {
-    let [lon_min, lat_min, lon_max, lat_max] = [0, 1, 2, 3].map(|i| double(request[i]));
-    if !zone_bounds_hold(lon_min, lat_min, lon_max, lat_max) {
-        return write_word(out, status::ZONE_BOUNDS);
-    }
-    *zone = Some(Zone::new(lon_min, lat_min, lon_max, lat_max));
-    write_word(out, status::DONE)
+/// The first N words.
+fn doubles<const N: usize>(words: &[u64]) -> [f64; N] {
+    std::array::from_fn(|i| double(words[i]))
 }
 
-fn zone_rest<W: Write>(out: &mut W, request: &[u64], zone: &Option<Zone>) -> io::Result<()> {
-    let Some(zone) = zone else {
-        return write_word(out, status::ZONE_BOUNDS);
+/// The point of the first words, unchecked.
+fn given(words: &[u64]) -> Coo3D {
+    let [x, y, z, lon, lat] = doubles(words);
+    Coo3D { x, y, z, lon, lat }
+}
+
+/// The point of the first words, which a refusal names by this index.
+fn point(words: &[u64], index: u64) -> Answer<Coo3D> {
+    if within(&doubles(words), &POINT_BOUNDS) {
+        Ok(given(words))
+    } else {
+        Err(Refusal::With(status::OUTSIDE_DOMAIN, index))
+    }
+}
+
+fn count_fits(count: u64) -> Answer<()> {
+    match count {
+        0 => Err(Refusal::Alone(status::NONE_GIVEN)),
+        1..=MOST_POINTS => Ok(()),
+        _ => Err(Refusal::Alone(status::TOO_MANY)),
+    }
+}
+
+/// All points that a request gives.
+fn points(count: u64, words: &[u64]) -> Answer<Vec<Coo3D>> {
+    count_fits(count)?;
+    (0..)
+        .zip(words.chunks_exact(POINT_WORDS))
+        .map(|(index, words)| point(words, index))
+        .collect()
+}
+
+fn arc(request: &[u64]) -> Answer<[Coo3D; 2]> {
+    Ok([point(request, 0)?, point(&request[POINT_WORDS..], 1)?])
+}
+
+fn parallel(request: &[u64]) -> Answer<[f64; 3]> {
+    let parallel = doubles(request);
+    if within(&parallel, &PARALLEL_BOUNDS) {
+        Ok(parallel)
+    } else {
+        Err(Refusal::Alone(status::NO_PARALLEL))
+    }
+}
+
+fn region(kept: &Kept) -> Answer<&Polygon> {
+    kept.region.as_ref().map_err(|refusal| *refusal)
+}
+
+fn build(request: &[u64]) -> Answer<Polygon> {
+    let (count, rule) = (request[0], request[1]);
+    let (control, corners) = request[2..].split_at(POINT_WORDS);
+    let corners = points(count, corners)?;
+    let method = match rule {
+        0 => ContainsSouthPoleMethod::Default,
+        1 => ContainsSouthPoleMethod::DefaultComplement,
+        2 => ContainsSouthPoleMethod::ContainsSouthPole,
+        3 => ContainsSouthPoleMethod::DoNotContainsSouthPole,
+        CONTROL_POINT_IN => ContainsSouthPoleMethod::ControlPointIn(point(control, count)?),
+        _ => ContainsSouthPoleMethod::ControlPointOut(point(control, count)?),
     };
-    let [a, b, c] = [0, 1, 2].map(|i| double(request[i]));
-    write_word(out, status::DONE)?;
-    write_double(out, zone.dlon())?;
+    Ok(Polygon::new_custom_vec3(corners.into(), &method))
+}
+
+fn region_value(request: &[u64]) -> Answer<Polygon> {
+    let (count, flag) = (request[0], request[1]);
+    let (corners, normals) = request[2..].split_at(MOST_POINTS as usize * POINT_WORDS);
+    count_fits(count)?;
+    Ok(Polygon {
+        vertices: corners
+            .chunks_exact(POINT_WORDS)
+            .take(count as usize)
+            .map(given)
+            .collect(),
+        cross_products: normals
+            .chunks_exact(VECTOR_WORDS)
+            .take(count as usize)
+            .map(|words| {
+                let [x, y, z] = doubles(words);
+                Vect3::new(x, y, z)
+            })
+            .collect(),
+        contains_south_pole: flag != 0,
+    })
+}
+
+fn dump(region: &Polygon, answer: &mut Vec<u64>) {
+    answer.push(region.vertices.len() as u64);
+    answer.push(u64::from(region.contains_south_pole));
+    for corner in &region.vertices {
+        answer.extend(components(corner));
+        answer.extend([corner.lon(), corner.lat()].map(answered));
+    }
+    for normal in &region.cross_products {
+        answer.extend(components(normal));
+    }
+}
+
+fn components<V: Vec3>(vector: &V) -> [u64; VECTOR_WORDS] {
+    [vector.x(), vector.y(), vector.z()].map(answered)
+}
+
+fn finite<V: Vec3>(vector: &V) -> Answer<&V> {
+    if [vector.x(), vector.y(), vector.z()]
+        .iter()
+        .all(|component| component.is_finite())
+    {
+        Ok(vector)
+    } else {
+        Err(Refusal::Alone(status::NOT_FINITE))
+    }
+}
+
+fn first(crossing: Option<UnitVect3>, answer: &mut Vec<u64>) -> Answer<()> {
+    all(crossing.as_slice(), answer)
+}
+
+fn all(crossings: &[UnitVect3], answer: &mut Vec<u64>) -> Answer<()> {
+    answer.push(crossings.len() as u64);
+    for crossing in crossings {
+        answer.extend(components(finite(crossing)?));
+    }
+    Ok(())
+}
+
+/// The refusal of the first-answer call, which an is-intersecting call carries.
+fn carry(crossing: Option<UnitVect3>) -> Answer<()> {
+    crossing
+        .as_ref()
+        .map_or(Ok(()), |crossing| finite(crossing).map(|_| ()))
+}
+
+fn zone_new(request: &[u64]) -> Answer<Zone> {
+    let [lon_min, lat_min, lon_max, lat_max] = doubles(request);
+    if !zone_bounds_hold(lon_min, lat_min, lon_max, lat_max) {
+        return Err(Refusal::Alone(status::ZONE_BOUNDS));
+    }
+    Ok(Zone::new(lon_min, lat_min, lon_max, lat_max))
+}
+
+fn zone_rest(zone: &Zone, request: &[u64], answer: &mut Vec<u64>) {
+    let [a, b, c] = doubles(request);
+    answer.push(answered(zone.dlon()));
     for yes in [
         zone.crossed_vertically(a, b, c),
         zone.crossed_horizontally(a, b, c),
@@ -67,42 +294,17 @@ fn zone_rest<W: Write>(out: &mut W, request: &[u64], zone: &Option<Zone>) -> io:
         zone.contains(a, b),
         zone.contains_exclusive(a, b),
     ] {
-        write_word(out, u64::from(yes))?;
+        answer.push(u64::from(yes));
     }
     for (lon, lat) in zone.vertices() {
-        write_double(out, lon)?;
-        write_double(out, lat)?;
+        answer.extend([lon, lat].map(answered));
     }
-    Ok(())
 }
 
-fn bounding_cone<W: Write>(out: &mut W, request: &[u64]) -> io::Result<()> {
-    let (count, words) = (request[0], &request[1..]);
-    if count == 0 {
-        return write_word(out, status::NONE_GIVEN);
-    }
-    if count > MOST_POINTS {
-        return write_word(out, status::TOO_MANY);
-    }
-    let mut points = Vec::with_capacity(MOST_POINTS as usize);
-    for (index, fields) in words.chunks_exact(POINT_WORDS).enumerate() {
-        let point = [0, 1, 2, 3, 4].map(|i| double(fields[i]));
-        if !point_in_domain(&point) {
-            write_word(out, status::OUTSIDE_DOMAIN)?;
-            return write_word(out, index as u64);
-        }
-        let [x, y, z, lon, lat] = point;
-        points.push(Coo3D { x, y, z, lon, lat });
-    }
-    let cone = Cone::bounding_cone(&points);
-    let centre = [cone.center().x(), cone.center().y(), cone.center().z()];
-    if !centre.iter().all(|component| component.is_finite()) {
-        return write_word(out, status::NOT_FINITE);
-    }
-    write_word(out, status::DONE)?;
-    for component in centre {
-        write_double(out, component)?;
-    }
+fn bounding_cone(request: &[u64], answer: &mut Vec<u64>) -> Answer<()> {
+    let cone = Cone::bounding_cone(&points(request[0], &request[1..])?);
+    answer.extend(components(finite(cone.center())?));
     // The changed copy holds the largest squared chord as its radius.
-    write_double(out, cone.radius())
+    answer.push(answered(cone.radius()));
+    Ok(())
 }

@@ -2,6 +2,9 @@
 //! gave the same bytes. Prints how many requests of each kind there were and how they came out.
 //! At the first difference it prints the request and both answers, and exits with 1.
 
+mod cases;
+mod edges;
+
 use std::collections::BTreeMap;
 use std::fs::File;
 use std::num::FpCategory;
@@ -9,7 +12,7 @@ use std::process::ExitCode;
 
 use stream::{
     describe_answer, describe_request, read_answer, read_request, status, Call, Kind, Next,
-    Outcome, Part, Words, KINDS,
+    Outcome, Part, Words, KINDS, RULES,
 };
 
 fn main() -> ExitCode {
@@ -79,7 +82,7 @@ impl<'a> Side<'a> {
     fn describe(&self, kind: &Kind) -> Vec<String> {
         let mut lines = describe_answer(kind, &self.answer);
         if !self.whole {
-            lines.push("the stream ends here".to_string());
+            lines.push("the answer is not whole".to_string());
         }
         lines
     }
@@ -91,14 +94,18 @@ struct Tally {
     count: u64,
     /// By status, or by class of the double where there is none.
     outcomes: BTreeMap<u64, u64>,
-    /// For each of the answer's parts, how often it was a yes.
-    yes: Vec<u64>,
+    /// For each pole rule, how many requests there were and how many were not refused.
+    rules: [(u64, u64); RULES.len()],
+    /// For each of the answer's parts, how often it was 0, 1, 2, and 3 or more, and the greatest.
+    sizes: Vec<([u64; 4], u64)>,
+    /// Over the parallel's requests that were not refused for their arguments.
+    cases: cases::Counts,
 }
 
 const CLASSES: [&str; 4] = ["finite", "zero", "infinite", "NaN"];
 
 impl Tally {
-    fn add(&mut self, kind: &Kind, answer: &[u64]) {
+    fn add(&mut self, kind: &Kind, request: &[u64], answer: &[u64], region: &cases::Region) {
         self.count += 1;
         let outcome = match kind.outcome {
             Outcome::Status => answer[0],
@@ -110,12 +117,29 @@ impl Tally {
             },
         };
         *self.outcomes.entry(outcome).or_default() += 1;
-        if kind.outcome == Outcome::Status && outcome == status::DONE {
-            self.yes.resize(kind.answer.len(), 0);
-            for ((yes, part), word) in self.yes.iter_mut().zip(kind.answer).zip(&answer[1..]) {
-                if matches!(part, Part::YesNo(_)) {
-                    *yes += u64::from(*word == 1);
+        let done = kind.outcome == Outcome::Status && outcome == status::DONE;
+        for (part, &word) in kind.request.iter().zip(request) {
+            if let Part::Rule(_) = part {
+                let (count, not_refused) = &mut self.rules[word as usize];
+                *count += 1;
+                *not_refused += u64::from(done);
+            }
+        }
+        if done {
+            self.sizes.resize(kind.answer.len(), ([0; 4], 0));
+            // Lists stand last in an answer, so that the parts before them are one word each.
+            for ((sizes, greatest), &word) in self.sizes.iter_mut().zip(&answer[1..]) {
+                sizes[word.min(3) as usize] += 1;
+                *greatest = word.max(*greatest);
+            }
+        }
+        if done || outcome == status::NOT_FINITE {
+            match kind.call {
+                Call::ParallelFirst | Call::IsIntersectingParallel => {
+                    region.count(request, true, &mut self.cases);
                 }
+                Call::ParallelAll => region.count(request, false, &mut self.cases),
+                _ => {}
             }
         }
     }
@@ -129,16 +153,82 @@ impl Tally {
                 Outcome::Double => format!("{}: {count}", CLASSES[outcome as usize]),
             })
             .collect();
-        let number = kind.call as u64;
-        let (name, count) = (kind.name, self.count);
-        println!(
-            "{number:>3}  {name:<16} {count:>9}  {}",
-            outcomes.join(", ")
+        print_row(
+            &(kind.call as u64).to_string(),
+            kind.name,
+            &self.count.to_string(),
+            &outcomes.join(", "),
         );
-        for (yes, part) in self.yes.iter().zip(kind.answer) {
-            if let Part::YesNo(name) = part {
-                println!("{:>32}yes {name}: {yes}", "");
+        let detail = |text: &str| print_row("", "", "", &format!("  {text}"));
+        if kind
+            .request
+            .iter()
+            .any(|part| matches!(part, Part::Rule(_)))
+        {
+            for (name, (count, not_refused)) in RULES.iter().zip(&self.rules) {
+                detail(&format!("{name}: {count}, not refused: {not_refused}"));
             }
+        }
+        for (([none, one, two, more], greatest), part) in self.sizes.iter().zip(kind.answer) {
+            match part {
+                Part::YesNo(name) => detail(&format!("{name}: no {none}, yes {one}")),
+                Part::Found(name) => detail(&format!("{name}: none {none}, one {one}")),
+                Part::Count(name) => detail(&format!(
+                    "{name} 0: {none}, 1: {one}, 2: {two}, 3 or more: {more}, at most {greatest}"
+                )),
+                _ => {}
+            }
+        }
+    }
+}
+
+fn print_row(number: &str, name: &str, count: &str, rest: &str) {
+    println!("{number:>3}  {name:<25} {count:>9}  {rest}");
+}
+
+/// The parallel's cases, one column for each of its calls.
+fn print_cases(tallies: &[Tally]) {
+    let columns = [
+        Call::ParallelFirst,
+        Call::ParallelAll,
+        Call::IsIntersectingParallel,
+    ];
+    let numbers = columns.map(|call| format!("{:>9}", call as u64));
+    print_row(
+        "",
+        "the parallel's cases",
+        &numbers[0],
+        &numbers[1..].join("  "),
+    );
+    for (index, name) in cases::NAMES.iter().enumerate() {
+        let counts = columns.map(|call| {
+            let mut rows = KINDS.iter().zip(tallies);
+            let count = rows.find(|(kind, _)| kind.call == call);
+            format!("{:>9}", count.map_or(0, |(_, tally)| tally.cases[index]))
+        });
+        print_row("", name, &counts[0], &counts[1..].join("  "));
+    }
+}
+
+/// A request that later answers rest on, by its row of `KINDS`.
+#[derive(Default)]
+struct Basis {
+    row: Option<usize>,
+    request: Vec<u64>,
+}
+
+impl Basis {
+    fn set(&mut self, row: usize, request: &[u64]) {
+        self.row = Some(row);
+        self.request.clear();
+        self.request.extend_from_slice(request);
+    }
+
+    fn print(&self, title: &str) {
+        if let Some(row) = self.row {
+            let kind = &KINDS[row];
+            println!("{title}, by request {} {}:", kind.call as u64, kind.name);
+            print_lines(&describe_request(kind, &self.request), None);
         }
     }
 }
@@ -148,8 +238,10 @@ fn compare(requests: &str, a: &str, b: &str) -> Result<bool, String> {
     let mut a = Side::open(a)?;
     let mut b = Side::open(b)?;
     let mut request = Vec::new();
-    // The request that made the zone kept, and its row: what a later answer rests on.
-    let mut zone: Option<(usize, Vec<u64>)> = None;
+    // The requests that made the zone and the region kept: what a later answer rests on.
+    let mut zone = Basis::default();
+    let mut region = Basis::default();
+    let mut edges = cases::Region::default();
     let mut tallies = vec![Tally::default(); KINDS.len()];
     let mut compared: u64 = 0;
     let broken = loop {
@@ -170,9 +262,22 @@ fn compare(requests: &str, a: &str, b: &str) -> Result<bool, String> {
                 kind.name
             );
             print_lines(&describe_request(kind, &request), None);
-            if let (Call::ZoneRest, Some((row, zone))) = (kind.call, &zone) {
-                println!("the zone kept:");
-                print_lines(&describe_request(&KINDS[*row], zone), None);
+            match kind.call {
+                Call::ZoneRest => zone.print("the zone kept"),
+                Call::Region
+                | Call::Contains
+                | Call::ArcFirst
+                | Call::ArcAll
+                | Call::IsIntersectingArc
+                | Call::GreatCircleAll
+                | Call::ParallelFirst
+                | Call::ParallelAll
+                | Call::IsIntersectingParallel => region.print("the region kept"),
+                Call::Build
+                | Call::Root
+                | Call::ZoneNew
+                | Call::BoundingCone
+                | Call::RegionValue => {}
             }
             for (side, other) in [(&a, &b), (&b, &a)] {
                 println!("answer in {}:", side.stream.path);
@@ -180,10 +285,21 @@ fn compare(requests: &str, a: &str, b: &str) -> Result<bool, String> {
             }
             return Ok(false);
         }
-        if kind.call == Call::ZoneNew && a.answer[0] == status::DONE {
-            zone = Some((row, request.clone()));
+        tallies[row].add(kind, &request, &a.answer, &edges);
+        if a.answer[0] == status::DONE {
+            match kind.call {
+                Call::ZoneNew => zone.set(row, &request),
+                Call::Build => {
+                    region.set(row, &request);
+                    edges = cases::Region::built(&request);
+                }
+                Call::RegionValue => {
+                    region.set(row, &request);
+                    edges = cases::Region::handed_in(&request);
+                }
+                _ => {}
+            }
         }
-        tallies[row].add(kind, &a.answer);
         compared += 1;
     };
     for side in [&mut a.stream, &mut b.stream] {
@@ -192,10 +308,11 @@ fn compare(requests: &str, a: &str, b: &str) -> Result<bool, String> {
             return Ok(false);
         }
     }
-    println!("no.  request              count  outcomes");
+    print_row("no.", "request", "count", "outcomes");
     for (kind, tally) in KINDS.iter().zip(&tallies) {
         tally.print(kind);
     }
+    print_cases(&tallies);
     match broken {
         None => println!("compared {compared} requests, no difference"),
         // Both programs end there; whoever meant to send more must see it.

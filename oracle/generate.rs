@@ -14,21 +14,20 @@
 //! 9 to 62, 30 have 63, 40 have 64, 30 have 65 and 10 have 66 to 80 (`COUNT_SHARES`); besides, one
 //! in `LONG_CONE_ONE_IN` has up to 4,096.
 
+mod draw;
+mod edges;
+mod points;
+mod queries;
+mod regions;
+
 use std::f64::consts::PI;
 use std::io::{self, BufWriter, Write};
 use std::process::ExitCode;
 
-use stream::{
-    write_word, zone_bounds_hold, Call, HALF_PI, MOST_GIVEN, POINT_BOUNDS, POINT_WORDS, TWO_PI,
-};
-
-#[derive(Clone, Copy)]
-enum Class {
-    Good,
-    Borderline,
-    Damaged,
-    Raw,
-}
+use draw::{stepped, Class, Draw, LARGEST_SUBNORMAL, RAISED_NORTH, SMALLEST, SPECIAL};
+use points::{point_count, points, CountShare};
+use regions::{build, region_value, Kept};
+use stream::{write_word, zone_bounds_hold, Call, HALF_PI, POINT_BOUNDS, TWO_PI};
 
 const CLASS_SHARES: [(Class, u64); 4] = [
     (Class::Good, 50),
@@ -37,15 +36,41 @@ const CLASS_SHARES: [(Class, u64); 4] = [
     (Class::Raw, 10),
 ];
 
-const CALL_SHARES: [(Call, u64); 4] = [
-    (Call::Root, 25),
-    (Call::ZoneNew, 15),
-    (Call::ZoneRest, 35),
-    (Call::BoundingCone, 25),
+const CALL_SHARES: [(Call, u64); 14] = [
+    (Call::Build, 10),
+    (Call::RegionValue, 2),
+    (Call::Contains, 16),
+    (Call::ArcFirst, 7),
+    (Call::ArcAll, 8),
+    (Call::IsIntersectingArc, 4),
+    (Call::GreatCircleAll, 8),
+    (Call::ParallelFirst, 8),
+    (Call::ParallelAll, 8),
+    (Call::IsIntersectingParallel, 4),
+    (Call::Root, 7),
+    (Call::ZoneNew, 4),
+    (Call::ZoneRest, 8),
+    (Call::BoundingCone, 6),
 ];
 
-/// Least and greatest number of points, and of a thousand cones how many.
-const COUNT_SHARES: [((u64, u64), u64); 9] = [
+/// Asked before there is a zone or a region.
+const FIRST_CALLS: [Call; 10] = [
+    Call::Region,
+    Call::Contains,
+    Call::ArcFirst,
+    Call::ArcAll,
+    Call::IsIntersectingArc,
+    Call::GreatCircleAll,
+    Call::ParallelFirst,
+    Call::ParallelAll,
+    Call::IsIntersectingParallel,
+    Call::ZoneRest,
+];
+
+/// Of a hundred builds and region values after how many the region is asked for.
+const REGION_SHARE: u64 = 50;
+
+const CONE_SHARES: [CountShare; 9] = [
     ((0, 0), 20),
     ((1, 1), 80),
     ((2, 2), 170),
@@ -56,177 +81,6 @@ const COUNT_SHARES: [((u64, u64), u64); 9] = [
     ((65, 65), 30),
     ((66, 80), 10),
 ];
-
-const LONG_CONE_ONE_IN: u64 = 3000;
-
-/// Where `Zone::new` puts a north edge of HALF_PI.
-const RAISED_NORTH: f64 = HALF_PI + 1e-15;
-
-const SMALLEST: f64 = f64::from_bits(1);
-const LARGEST_SUBNORMAL: f64 = f64::from_bits((1 << 52) - 1);
-
-const NANS: [u64; 8] = [
-    0x7FF8_0000_0000_0000, // quiet
-    0xFFF8_0000_0000_0000, // negative
-    0x7FF0_0000_0000_0001, // signalling
-    0xFFF0_0000_0000_0001,
-    0x7FF7_FFFF_FFFF_FFFF,
-    0x7FF8_0000_DEAD_BEEF, // with a payload
-    0x7FFF_FFFF_FFFF_FFFF,
-    0xFFFF_FFFF_FFFF_FFFF,
-];
-
-/// Values of no one place that any number may meet.
-const SPECIAL: [f64; 20] = [
-    0.0,
-    -0.0,
-    SMALLEST,
-    -SMALLEST,
-    LARGEST_SUBNORMAL,
-    -LARGEST_SUBNORMAL,
-    f64::MIN_POSITIVE,
-    -f64::MIN_POSITIVE,
-    0.5,
-    1.0,
-    -1.0,
-    2.0,
-    -2.0,
-    HALF_PI,
-    -HALF_PI,
-    RAISED_NORTH,
-    PI,
-    TWO_PI,
-    f64::INFINITY,
-    f64::NEG_INFINITY,
-];
-
-/// A splitmix64 sequence and what is drawn from it.
-struct Draw {
-    state: u64,
-}
-
-impl Draw {
-    fn word(&mut self) -> u64 {
-        self.state = self.state.wrapping_add(0x9E37_79B9_7F4A_7C15);
-        let mut z = self.state;
-        z = (z ^ (z >> 30)).wrapping_mul(0xBF58_476D_1CE4_E5B9);
-        z = (z ^ (z >> 27)).wrapping_mul(0x94D0_49BB_1331_11EB);
-        z ^ (z >> 31)
-    }
-
-    /// From 0 to n − 1.
-    fn below(&mut self, n: u64) -> u64 {
-        ((u128::from(self.word()) * u128::from(n)) >> 64) as u64
-    }
-
-    /// Both ends included.
-    fn whole(&mut self, least: u64, greatest: u64) -> u64 {
-        least + self.below(greatest - least + 1)
-    }
-
-    fn percent(&mut self, share: u64) -> bool {
-        self.below(100) < share
-    }
-
-    fn pick<T: Copy>(&mut self, from: &[T]) -> T {
-        from[self.below(from.len() as u64) as usize]
-    }
-
-    fn by_share<T: Copy>(&mut self, shares: &[(T, u64)]) -> T {
-        let mut at = self.below(shares.iter().map(|(_, share)| share).sum());
-        for &(item, share) in shares {
-            if at < share {
-                return item;
-            }
-            at -= share;
-        }
-        shares[0].0
-    }
-
-    fn between(&mut self, least: f64, greatest: f64) -> f64 {
-        let unit = (self.word() >> 11) as f64 * (0.5 * f64::EPSILON);
-        least + (greatest - least) * unit
-    }
-
-    fn either_sign(&mut self, x: f64) -> f64 {
-        if self.percent(50) {
-            -x
-        } else {
-            x
-        }
-    }
-
-    /// The value itself, a neighbour, or a few units in the last place away.
-    fn near(&mut self, x: f64) -> f64 {
-        let steps = match self.below(10) {
-            0..=3 => 0,
-            4..=5 => 1,
-            6..=7 => -1,
-            8 => self.whole(2, 20) as i64,
-            _ => -(self.whole(2, 20) as i64),
-        };
-        // A step of none leaves −0 as it is.
-        if steps == 0 {
-            x
-        } else {
-            stepped(x, steps)
-        }
-    }
-
-    fn near_one_of(&mut self, from: &[f64]) -> f64 {
-        let x = self.pick(from);
-        self.near(x)
-    }
-
-    fn nan(&mut self) -> f64 {
-        let bits = if self.percent(70) {
-            self.pick(&NANS)
-        } else {
-            self.word() | 0x7FF0_0000_0000_0001
-        };
-        f64::from_bits(bits)
-    }
-
-    /// Outside the two bounds, or no number.
-    fn bad(&mut self, (least, greatest): (f64, f64)) -> f64 {
-        match self.below(8) {
-            0 | 1 => self.nan(),
-            2 => self.either_sign(f64::INFINITY),
-            3 => stepped(greatest, 1),
-            4 => stepped(least, -1),
-            5 => stepped(greatest, self.whole(1, 1000) as i64),
-            6 => greatest + self.between(0.001, 10.0),
-            _ => least - self.between(0.001, 10.0),
-        }
-    }
-
-    fn raw(&mut self) -> f64 {
-        f64::from_bits(self.word())
-    }
-
-    /// A random pattern below 2 in size, of any exponent there.
-    fn raw_small(&mut self) -> f64 {
-        f64::from_bits(self.word() & !(1 << 62))
-    }
-
-    /// A subnormal number, or just above, of any length.
-    fn subnormal(&mut self) -> f64 {
-        let length = self.whole(1, 53);
-        f64::from_bits(self.word() >> (64 - length))
-    }
-}
-
-/// The double this many steps up, −0 and +0 being one.
-fn stepped(x: f64, steps: i64) -> f64 {
-    let size = (x.to_bits() & i64::MAX as u64) as i64;
-    let place = if x.is_sign_negative() { -size } else { size } + steps;
-    let moved = f64::from_bits(place.unsigned_abs());
-    if place < 0 {
-        -moved
-    } else {
-        moved
-    }
-}
 
 // Roots
 
@@ -389,7 +243,7 @@ fn zone(draw: &mut Draw, class: Class) -> Bounds {
             }
             bounds
         }
-        Class::Raw => raw(draw),
+        Class::Raw => draw.raws(),
     }
 }
 
@@ -480,7 +334,7 @@ fn zone_rest(draw: &mut Draw, class: Class, kept: &Bounds) -> [f64; 3] {
             }
             three
         }
-        Class::Raw => raw(draw),
+        Class::Raw => draw.raws(),
     }
 }
 
@@ -552,241 +406,6 @@ fn lon_inside(draw: &mut Draw, kept: &Bounds) -> f64 {
     }
 }
 
-fn raw<const N: usize>(draw: &mut Draw) -> [f64; N] {
-    let small = draw.percent(50);
-    [(); N].map(|()| if small { draw.raw_small() } else { draw.raw() })
-}
-
-// Bounding cones
-
-/// x, y, z, lon, lat.
-type Point = [f64; POINT_WORDS];
-
-const ORIGIN: Point = [0.0; POINT_WORDS];
-
-fn cone(draw: &mut Draw, class: Class) -> Vec<Point> {
-    let count = point_count(draw);
-    match class {
-        Class::Good => good_points(draw, count),
-        Class::Borderline => borderline_points(draw, count),
-        Class::Damaged => {
-            let mut points = good_points(draw, count);
-            let bad = if draw.percent(70) {
-                1
-            } else {
-                draw.whole(2, 5)
-            };
-            for _ in 0..bad.min(count) {
-                let field = draw.below(POINT_WORDS as u64) as usize;
-                let value = draw.bad(POINT_BOUNDS[field]);
-                points[draw.below(count) as usize][field] = value;
-            }
-            points
-        }
-        Class::Raw => {
-            let small = draw.percent(50);
-            let mut points = Vec::new();
-            for _ in 0..count {
-                points.push(if small {
-                    raw_in_domain(draw)
-                } else {
-                    raw(draw)
-                });
-            }
-            points
-        }
-    }
-}
-
-fn point_count(draw: &mut Draw) -> u64 {
-    if draw.below(LONG_CONE_ONE_IN) == 0 {
-        return match draw.below(4) {
-            0 => MOST_GIVEN,
-            _ => draw.whole(66, MOST_GIVEN),
-        };
-    }
-    let (least, greatest) = draw.by_share(&COUNT_SHARES);
-    draw.whole(least, greatest)
-}
-
-fn point_at(lon: f64, lat: f64) -> Point {
-    let (sin_lon, cos_lon) = lon.sin_cos();
-    let (sin_lat, cos_lat) = lat.sin_cos();
-    [cos_lat * cos_lon, cos_lat * sin_lon, sin_lat, lon, lat]
-}
-
-fn somewhere(draw: &mut Draw) -> Point {
-    let lon = draw.between(0.0, TWO_PI);
-    point_at(lon, draw.between(-HALF_PI, HALF_PI))
-}
-
-fn opposite(point: &Point) -> Point {
-    let [x, y, z, lon, lat] = *point;
-    [-x, -y, -z, lon, lat]
-}
-
-fn good_points(draw: &mut Draw, count: u64) -> Vec<Point> {
-    let scattered = draw.percent(30);
-    let spread = match draw.below(10) {
-        0 => 0.0, // one point again and again
-        _ => 10f64.powi(-(draw.below(16) as i32)),
-    };
-    // Clusters lie anywhere, at a pole and on the seam.
-    let lon = match draw.below(4) {
-        0 => draw.pick(&[0.0, TWO_PI]),
-        _ => draw.between(0.0, TWO_PI),
-    };
-    let lat = match draw.below(4) {
-        0 => draw.pick(&[HALF_PI, -HALF_PI, 0.0]),
-        _ => draw.between(-HALF_PI, HALF_PI),
-    };
-    let mut points = Vec::with_capacity(count as usize);
-    for _ in 0..count {
-        points.push(if scattered {
-            somewhere(draw)
-        } else {
-            let lon = lon + draw.between(-spread, spread);
-            let lat = lat + draw.between(-spread, spread);
-            let lon = if lon < 0.0 { lon + TWO_PI } else { lon };
-            let lon = if lon > TWO_PI { lon - TWO_PI } else { lon };
-            point_at(lon, lat.clamp(-HALF_PI, HALF_PI))
-        });
-    }
-    points
-}
-
-fn borderline_points(draw: &mut Draw, count: u64) -> Vec<Point> {
-    let mut points = Vec::with_capacity(count as usize);
-    match draw.below(8) {
-        // Opposite pairs side by side: the sum is zero, the centre is not finite.
-        0 => {
-            let last = if draw.percent(50) {
-                ORIGIN
-            } else {
-                somewhere(draw)
-            };
-            for index in 0..count {
-                points.push(match points.last() {
-                    Some(before) if index % 2 == 1 => opposite(before),
-                    _ if index + 1 == count => last,
-                    _ => somewhere(draw),
-                });
-            }
-        }
-        // Opposite points apart from each other: what is left of the sum is rounding.
-        1 => {
-            points = good_points(draw, count);
-            let half = count as usize / 2;
-            for index in 0..half {
-                points[count as usize - 1 - index] = opposite(&points[index]);
-            }
-        }
-        // Vectors whose squares leave the range of normal numbers, or reach zero.
-        2 => {
-            points = good_points(draw, count);
-            let each = draw.percent(30);
-            let mut exponent = draw.whole(480, 1074);
-            for point in &mut points {
-                if each {
-                    exponent = draw.whole(480, 1074);
-                }
-                // In two steps, as 2^−1074 is no factor that keeps its digits.
-                let half = 0.5f64.powi(exponent as i32 / 2);
-                let rest = 0.5f64.powi(exponent as i32 - exponent as i32 / 2);
-                for field in &mut point[..3] {
-                    *field = *field * half * rest;
-                }
-            }
-        }
-        // Subnormal coordinates, and some near the root of the smallest number.
-        3 => {
-            let edge = 0.5f64.powi(537);
-            for _ in 0..count {
-                let mut point = somewhere(draw);
-                for field in &mut point[..3] {
-                    let size = match draw.below(5) {
-                        0 => draw.subnormal(),
-                        1 => draw.near(edge),
-                        2 => edge * draw.between(0.5, 8.0),
-                        3 => 0.0,
-                        _ => draw.pick(&[SMALLEST, LARGEST_SUBNORMAL, f64::MIN_POSITIVE]),
-                    };
-                    *field = draw.either_sign(size);
-                }
-                points.push(point);
-            }
-        }
-        // Fields on the domain's bounds and beside them.
-        4 => {
-            points = good_points(draw, count);
-            for _ in 0..draw.whole(1, 4).min(count) {
-                let field = draw.below(POINT_WORDS as u64) as usize;
-                let (least, greatest) = POINT_BOUNDS[field];
-                let edge = draw.near_one_of(&[least, greatest]);
-                points[draw.below(count) as usize][field] = edge;
-            }
-        }
-        // Every field a bound, a zero of either sign or one, and never beyond the bounds.
-        5 => {
-            for _ in 0..count {
-                points.push(POINT_BOUNDS.map(|(least, greatest)| {
-                    let value = match draw.below(5) {
-                        0 => least,
-                        1 => greatest,
-                        2 => 0.0,
-                        3 => -0.0,
-                        _ => draw.near(1.0),
-                    };
-                    if value == 0.0 {
-                        value
-                    } else {
-                        value.clamp(least, greatest)
-                    }
-                }));
-            }
-        }
-        // A sum of length one, give or take a few units in the last place.
-        6 => {
-            for index in 0..count {
-                points.push(match points.last() {
-                    Some(before) if index % 2 == 1 => opposite(before),
-                    _ => somewhere(draw),
-                });
-            }
-            if let Some(last) = points.last_mut() {
-                *last = somewhere(draw);
-                for field in &mut last[..3] {
-                    *field = draw.near(*field);
-                }
-            }
-        }
-        // Along an axis, with next to nothing beside it.
-        _ => {
-            let axis = draw.below(3) as usize;
-            for _ in 0..count {
-                let mut point = somewhere(draw);
-                for (place, field) in point[..3].iter_mut().enumerate() {
-                    let size = if place == axis {
-                        draw.near(1.0)
-                    } else {
-                        let tiny = [0.0, SMALLEST, f64::MIN_POSITIVE, 1e-160, f64::EPSILON, 1e-8];
-                        draw.near_one_of(&tiny)
-                    };
-                    *field = draw.either_sign(size);
-                }
-                points.push(point);
-            }
-        }
-    }
-    points
-}
-
-/// Coordinates of random patterns below 2 in size; longitude and latitude of their own ranges.
-fn raw_in_domain(draw: &mut Draw) -> Point {
-    let [x, y, z, lon, lat] = [(); POINT_WORDS].map(|()| draw.raw_small());
-    [x, y, z, lon.abs(), lat.clamp(-HALF_PI, HALF_PI)]
-}
-
 fn main() -> ExitCode {
     let arguments: Vec<u64> = std::env::args()
         .skip(1)
@@ -808,29 +427,65 @@ fn main() -> ExitCode {
 fn generate(seed: u64, count: u64) -> io::Result<()> {
     let mut out = BufWriter::with_capacity(1 << 20, io::stdout().lock());
     let mut draw = Draw { state: seed };
-    // Until a zone is kept the questions draw on one that no program was told.
-    let mut kept = [1.0, -0.5, 2.0, 0.5];
+    // Until a zone and a region are kept the questions draw on ones that no program was told.
+    let mut zone_kept = [1.0, -0.5, 2.0, 0.5];
+    let mut region = Kept::built(&points(&mut draw, Class::Good, 4));
+    let mut due = FIRST_CALLS.iter().rev().copied().collect::<Vec<Call>>();
     for _ in 0..count {
-        let call = draw.by_share(&CALL_SHARES);
+        let call = match due.pop() {
+            Some(call) => call,
+            None => draw.by_share(&CALL_SHARES),
+        };
         let class = draw.by_share(&CLASS_SHARES);
         write_word(&mut out, call as u64)?;
         match call {
+            Call::Build => {
+                let build = build(&mut draw, class);
+                write_word(&mut out, build.corners.len() as u64)?;
+                write_word(&mut out, build.rule)?;
+                write(&mut out, &build.control)?;
+                write_all(&mut out, &build.corners)?;
+                if let Some(kept) = build.kept() {
+                    region = kept;
+                }
+                due.extend(draw.percent(REGION_SHARE).then_some(Call::Region));
+            }
+            Call::Region => {}
+            Call::Contains => {
+                write(&mut out, &queries::point(&mut draw, class, &region))?;
+            }
+            Call::ArcFirst | Call::ArcAll | Call::IsIntersectingArc => {
+                write_all(&mut out, &queries::arc(&mut draw, class, &region))?;
+            }
+            Call::GreatCircleAll => {
+                write(&mut out, &queries::great_circle(&mut draw, class, &region))?;
+            }
+            Call::ParallelFirst | Call::ParallelAll | Call::IsIntersectingParallel => {
+                write(&mut out, &queries::parallel(&mut draw, class, &region))?;
+            }
             Call::Root => write(&mut out, &[root(&mut draw, class)])?,
             Call::ZoneNew => {
                 let bounds = zone(&mut draw, class);
                 write(&mut out, &bounds)?;
                 let [lon_min, lat_min, lon_max, lat_max] = bounds;
                 if zone_bounds_hold(lon_min, lat_min, lon_max, lat_max) {
-                    kept = bounds;
+                    zone_kept = bounds;
                 }
             }
-            Call::ZoneRest => write(&mut out, &zone_rest(&mut draw, class, &kept))?,
+            Call::ZoneRest => write(&mut out, &zone_rest(&mut draw, class, &zone_kept))?,
             Call::BoundingCone => {
-                let points = cone(&mut draw, class);
-                write_word(&mut out, points.len() as u64)?;
-                for point in &points {
-                    write(&mut out, point)?;
-                }
+                let count = point_count(&mut draw, &CONE_SHARES);
+                write_word(&mut out, count)?;
+                write_all(&mut out, &points(&mut draw, class, count))?;
+            }
+            Call::RegionValue => {
+                let value = region_value(&mut draw);
+                write_word(&mut out, value.count)?;
+                write_word(&mut out, value.flag)?;
+                write_all(&mut out, &value.corners)?;
+                write_all(&mut out, &value.normals)?;
+                region = value.kept();
+                due.extend(draw.percent(REGION_SHARE).then_some(Call::Region));
             }
         }
     }
@@ -841,6 +496,13 @@ fn generate(seed: u64, count: u64) -> io::Result<()> {
 fn write<W: Write>(out: &mut W, values: &[f64]) -> io::Result<()> {
     for value in values {
         write_word(out, value.to_bits())?;
+    }
+    Ok(())
+}
+
+fn write_all<W: Write, const N: usize>(out: &mut W, entries: &[[f64; N]]) -> io::Result<()> {
+    for entry in entries {
+        write(out, entry)?;
     }
     Ok(())
 }

@@ -21,7 +21,7 @@ const COPIED: [&str; 4] = ["mod.rs", "coo3d.rs", "zone.rs", "cone.rs"];
 /// Modules that mod.rs names and that no call of ours reaches.
 const EMPTY: [&str; 3] = ["elliptical_cone.rs", "frame.rs", "proj.rs"];
 
-const CHANGES: [Change; 7] = [
+const CHANGES: [Change; 8] = [
     // Seen from outside the crate, as coo3d already is.
     Change {
         file: "mod.rs",
@@ -34,6 +34,21 @@ const CHANGES: [Change; 7] = [
         times: 1,
         from: "pub(super) mod zone;",
         to: "pub mod zone;",
+    },
+    // A region value is handed in as it is, and its fields are answered.
+    Change {
+        file: "mod.rs",
+        times: 1,
+        from: "pub struct Polygon {
+  vertices: Box<[Coo3D]>,
+  cross_products: Box<[Vect3]>,
+  contains_south_pole: bool,
+}",
+        to: "pub struct Polygon {
+  pub vertices: Box<[Coo3D]>,
+  pub cross_products: Box<[Vect3]>,
+  pub contains_south_pole: bool,
+}",
     },
     // Sine and cosine come as arguments.
     Change {

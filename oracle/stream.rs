@@ -19,16 +19,42 @@ pub const MOST_GIVEN: u64 = 4096;
 /// Words of a point: x, y, z, lon, lat.
 pub const POINT_WORDS: usize = 5;
 
-const POINT_FIELDS: [&str; POINT_WORDS] = ["x", "y", "z", "lon", "lat"];
+/// Words of a vector: x, y, z.
+pub const VECTOR_WORDS: usize = 3;
 
-/// Least and greatest value of each of a point's fields.
-pub const POINT_BOUNDS: [(f64, f64); POINT_WORDS] = [
-    (-2.0, 2.0),
-    (-2.0, 2.0),
-    (-2.0, 2.0),
+/// A vector's fields are a point's first ones.
+const FIELDS: [&str; POINT_WORDS] = ["x", "y", "z", "lon", "lat"];
+
+/// Least and greatest value.
+pub type Interval = (f64, f64);
+
+/// Where each of a vector's fields may lie.
+pub const VECTOR_BOUNDS: [Interval; VECTOR_WORDS] = [(-2.0, 2.0); VECTOR_WORDS];
+
+/// Where each of a point's fields may lie.
+pub const POINT_BOUNDS: [Interval; POINT_WORDS] = [
+    VECTOR_BOUNDS[0],
+    VECTOR_BOUNDS[1],
+    VECTOR_BOUNDS[2],
     (0.0, TWO_PI),
     (-HALF_PI, HALF_PI),
 ];
+
+/// Where a parallel's latitude, sine and cosine may lie.
+pub const PARALLEL_BOUNDS: [Interval; 3] = [POINT_BOUNDS[4], (-1.0, 1.0), (-1.0, 1.0)];
+
+/// The pole rules, by their numbers in a request.
+pub const RULES: [&str; 6] = [
+    "Default",
+    "DefaultComplement",
+    "ContainsSouthPole",
+    "DoNotContainsSouthPole",
+    "ControlPointIn",
+    "ControlPointOut",
+];
+
+/// The first of the two rules that read the control point.
+pub const CONTROL_POINT_IN: u64 = 4;
 
 /// How every NaN is written in an answer.
 const ANSWERED_NAN: u64 = 0x7FF8_0000_0000_0000;
@@ -39,6 +65,7 @@ pub mod status {
     pub const OUTSIDE_DOMAIN: u64 = 1;
     pub const NONE_GIVEN: u64 = 2;
     pub const TOO_MANY: u64 = 3;
+    pub const NO_PARALLEL: u64 = 5;
     pub const NOT_FINITE: u64 = 6;
     pub const TOO_SHORT: u64 = 8;
     pub const ZONE_BOUNDS: u64 = 9;
@@ -52,11 +79,11 @@ pub mod status {
     }
 }
 
-/// Whether a point is in the scope's domain. A NaN is in no range.
-pub fn point_in_domain(point: &[f64; POINT_WORDS]) -> bool {
-    point
+/// Whether each value is within its bounds, both included. A NaN is within none.
+pub fn within<const N: usize>(values: &[f64; N], bounds: &[Interval; N]) -> bool {
+    values
         .iter()
-        .zip(&POINT_BOUNDS)
+        .zip(bounds)
         .all(|(value, (least, greatest))| (*least..=*greatest).contains(value))
 }
 
@@ -75,10 +102,21 @@ pub fn zone_bounds_hold(lon_min: f64, lat_min: f64, lon_max: f64, lat_max: f64) 
 #[derive(Clone, Copy, Debug, PartialEq, Eq)]
 #[repr(u64)]
 pub enum Call {
+    Build = 1,
+    Region = 9,
+    Contains = 10,
+    ArcFirst = 11,
+    ArcAll = 12,
+    IsIntersectingArc = 13,
+    GreatCircleAll = 14,
+    ParallelFirst = 15,
+    ParallelAll = 16,
+    IsIntersectingParallel = 17,
     Root = 22,
     ZoneNew = 23,
     ZoneRest = 24,
     BoundingCone = 25,
+    RegionValue = 26,
 }
 
 /// A group of words in a request or an answer.
@@ -86,10 +124,35 @@ pub enum Part {
     Double(&'static str),
     /// 0 or 1.
     YesNo(&'static str),
-    /// How many points there are.
+    /// 0, or any other number for yes.
+    Flag(&'static str),
+    /// A rule's number.
+    Rule(&'static str),
+    /// How many entries the lists after it have.
     Count(&'static str),
-    /// As many points as the count before them says.
-    Points(&'static str),
+    /// The same, but 0 or 1.
+    Found(&'static str),
+    /// Any number: how many entries of the lists after it count.
+    InUse(&'static str),
+    Points(&'static str, Entries),
+    Vectors(&'static str, Entries),
+}
+
+/// How many entries a list has.
+pub enum Entries {
+    One,
+    Counted,
+    Most,
+}
+
+impl Entries {
+    fn number(&self, count: usize) -> usize {
+        match self {
+            Entries::One => 1,
+            Entries::Counted => count,
+            Entries::Most => MOST_POINTS as usize,
+        }
+    }
 }
 
 /// What an answer begins with.
@@ -110,7 +173,110 @@ pub struct Kind {
     pub answer: &'static [Part],
 }
 
+const ARC: &[Part] = &[
+    Part::Points("a", Entries::One),
+    Part::Points("b", Entries::One),
+];
+
+const PARALLEL: &[Part] = &[
+    Part::Double("lat"),
+    Part::Double("sine"),
+    Part::Double("cosine"),
+];
+
+const FIRST: &[Part] = &[
+    Part::Found("point"),
+    Part::Vectors("crossing", Entries::Counted),
+];
+
+const ALL: &[Part] = &[
+    Part::Count("length"),
+    Part::Vectors("crossing", Entries::Counted),
+];
+
+const IS_INTERSECTING: &[Part] = &[Part::YesNo("is intersecting")];
+
 pub const KINDS: &[Kind] = &[
+    Kind {
+        call: Call::Build,
+        name: "build",
+        request: &[
+            Part::Count("n"),
+            Part::Rule("rule"),
+            Part::Points("control point", Entries::One),
+            Part::Points("corner", Entries::Counted),
+        ],
+        outcome: Outcome::Status,
+        answer: &[],
+    },
+    Kind {
+        call: Call::Region,
+        name: "the region",
+        request: &[],
+        outcome: Outcome::Status,
+        answer: &[
+            Part::Count("count"),
+            Part::YesNo("flag"),
+            Part::Points("corner", Entries::Counted),
+            Part::Vectors("normal", Entries::Counted),
+        ],
+    },
+    Kind {
+        call: Call::Contains,
+        name: "contains",
+        request: &[Part::Points("point", Entries::One)],
+        outcome: Outcome::Status,
+        answer: &[Part::YesNo("contains")],
+    },
+    Kind {
+        call: Call::ArcFirst,
+        name: "arc, first",
+        request: ARC,
+        outcome: Outcome::Status,
+        answer: FIRST,
+    },
+    Kind {
+        call: Call::ArcAll,
+        name: "arc, all",
+        request: ARC,
+        outcome: Outcome::Status,
+        answer: ALL,
+    },
+    Kind {
+        call: Call::IsIntersectingArc,
+        name: "is intersecting, arc",
+        request: ARC,
+        outcome: Outcome::Status,
+        answer: IS_INTERSECTING,
+    },
+    Kind {
+        call: Call::GreatCircleAll,
+        name: "great circle, all",
+        request: &[Part::Vectors("normal", Entries::One)],
+        outcome: Outcome::Status,
+        answer: ALL,
+    },
+    Kind {
+        call: Call::ParallelFirst,
+        name: "parallel, first",
+        request: PARALLEL,
+        outcome: Outcome::Status,
+        answer: FIRST,
+    },
+    Kind {
+        call: Call::ParallelAll,
+        name: "parallel, all",
+        request: PARALLEL,
+        outcome: Outcome::Status,
+        answer: ALL,
+    },
+    Kind {
+        call: Call::IsIntersectingParallel,
+        name: "is intersecting, parallel",
+        request: PARALLEL,
+        outcome: Outcome::Status,
+        answer: IS_INTERSECTING,
+    },
     Kind {
         call: Call::Root,
         name: "root",
@@ -155,7 +321,7 @@ pub const KINDS: &[Kind] = &[
     Kind {
         call: Call::BoundingCone,
         name: "bounding cone",
-        request: &[Part::Count("n"), Part::Points("point")],
+        request: &[Part::Count("n"), Part::Points("point", Entries::Counted)],
         outcome: Outcome::Status,
         answer: &[
             Part::Double("centre x"),
@@ -163,6 +329,18 @@ pub const KINDS: &[Kind] = &[
             Part::Double("centre z"),
             Part::Double("largest squared chord"),
         ],
+    },
+    Kind {
+        call: Call::RegionValue,
+        name: "a region value handed in",
+        request: &[
+            Part::InUse("count"),
+            Part::Flag("flag"),
+            Part::Points("corner", Entries::Most),
+            Part::Vectors("normal", Entries::Most),
+        ],
+        outcome: Outcome::Status,
+        answer: &[],
     },
 ];
 
@@ -256,12 +434,14 @@ pub fn read_request<R: Read>(words: &mut Words<R>, request: &mut Vec<u64>) -> io
     Ok(match read_parts(words, KINDS[row].request, request)? {
         Taken::Whole => Next::Request(row),
         Taken::Cut => Next::Broken(format!("the stream ends inside a request {number}")),
-        Taken::Count(count) => Next::Broken(format!("a request {number} gives {count} points")),
+        Taken::Unknown(name, word) => {
+            Next::Broken(format!("{number} with {name} = {word} is no request"))
+        }
     })
 }
 
 /// Reads the answer to a request of this kind, its status included; false where the stream ends
-/// before it is whole.
+/// before it is whole, or where it is none.
 pub fn read_answer<R: Read>(
     words: &mut Words<R>,
     kind: &Kind,
@@ -286,8 +466,8 @@ pub fn read_answer<R: Read>(
 enum Taken {
     Whole,
     Cut,
-    /// A count above `MOST_GIVEN`.
-    Count(u64),
+    /// A number of this name that is too large.
+    Unknown(&'static str, u64),
 }
 
 fn read_parts<R: Read>(
@@ -298,17 +478,25 @@ fn read_parts<R: Read>(
     let mut count = 0;
     for part in parts {
         let needed = match part {
-            Part::Points(_) => count * POINT_WORDS,
+            Part::Points(_, entries) => POINT_WORDS * entries.number(count),
+            Part::Vectors(_, entries) => VECTOR_WORDS * entries.number(count),
             _ => 1,
         };
         if !take(words, needed, into)? {
             return Ok(Taken::Cut);
         }
-        if let (Part::Count(_), Some(&given)) = (part, into.last()) {
-            if given > MOST_GIVEN {
-                return Ok(Taken::Count(given));
-            }
-            count = given as usize;
+        let (name, greatest) = match part {
+            Part::Count(name) => (name, MOST_GIVEN),
+            Part::Found(name) => (name, 1),
+            Part::Rule(name) => (name, RULES.len() as u64 - 1),
+            _ => continue,
+        };
+        let word = into[into.len() - 1];
+        if word > greatest {
+            return Ok(Taken::Unknown(name, word));
+        }
+        if !matches!(part, Part::Rule(_)) {
+            count = word as usize;
         }
     }
     Ok(Taken::Whole)
@@ -330,15 +518,14 @@ pub fn write_word<W: Write>(out: &mut W, word: u64) -> io::Result<()> {
     out.write_all(&word.to_le_bytes())
 }
 
-/// Writes a double as an answer has it.
+/// A double as an answer has it.
 #[inline]
-pub fn write_double<W: Write>(out: &mut W, value: f64) -> io::Result<()> {
-    let word = if value.is_nan() {
+pub fn answered(value: f64) -> u64 {
+    if value.is_nan() {
         ANSWERED_NAN
     } else {
         value.to_bits()
-    };
-    write_word(out, word)
+    }
 }
 
 /// A request's words after its number, for a reader.
@@ -363,37 +550,58 @@ pub fn describe_answer(kind: &Kind, answer: &[u64]) -> Vec<String> {
     lines
 }
 
-/// One line for each part, as far as there are words.
+/// One line for each word or entry, as far as there are words.
 fn describe(parts: &[Part], words: &[u64]) -> Vec<String> {
     let mut lines = Vec::new();
     let mut words = words;
+    let mut count = 0;
     for part in parts {
-        if let Part::Points(name) = part {
-            let points = words.chunks_exact(POINT_WORDS);
-            let dropped = points.len().saturating_sub(MOST_POINTS as usize);
-            for (index, point) in points.take(MOST_POINTS as usize).enumerate() {
-                let fields: Vec<String> = POINT_FIELDS
-                    .iter()
-                    .zip(point)
-                    .map(|(field, &word)| describe_double(field, word))
-                    .collect();
-                lines.push(format!("{name} {index}: {}", fields.join(", ")));
+        let (name, size, entries) = match part {
+            Part::Points(name, entries) => (name, POINT_WORDS, entries),
+            Part::Vectors(name, entries) => (name, VECTOR_WORDS, entries),
+            Part::Double(name)
+            | Part::YesNo(name)
+            | Part::Flag(name)
+            | Part::Rule(name)
+            | Part::Count(name)
+            | Part::Found(name)
+            | Part::InUse(name) => {
+                let Some((&word, rest)) = words.split_first() else {
+                    break;
+                };
+                words = rest;
+                lines.push(match part {
+                    Part::Double(_) => describe_double(name, word),
+                    _ => format!("{name} = {word}"),
+                });
+                if matches!(part, Part::Count(_) | Part::Found(_) | Part::InUse(_)) {
+                    count = word as usize;
+                }
+                continue;
             }
-            if dropped > 0 {
-                lines.push(format!("and {dropped} more, read and dropped"));
-            }
-            break;
-        }
-        let Some((&word, rest)) = words.split_first() else {
-            break;
         };
+        let there = entries.number(count).min(words.len() / size);
+        let (list, rest) = words.split_at(there * size);
         words = rest;
-        lines.push(match part {
-            Part::Double(name) => describe_double(name, word),
-            Part::YesNo(name) | Part::Count(name) | Part::Points(name) => {
-                format!("{name} = {word}")
-            }
-        });
+        let shown = match entries {
+            Entries::One => there,
+            Entries::Counted | Entries::Most => there.min(count).min(MOST_POINTS as usize),
+        };
+        for (index, entry) in list.chunks_exact(size).take(shown).enumerate() {
+            let fields: Vec<String> = FIELDS
+                .iter()
+                .zip(entry)
+                .map(|(field, &word)| describe_double(field, word))
+                .collect();
+            let fields = fields.join(", ");
+            lines.push(match entries {
+                Entries::One => format!("{name}: {fields}"),
+                Entries::Counted | Entries::Most => format!("{name} {index}: {fields}"),
+            });
+        }
+        if there > shown {
+            lines.push(format!("{name}: {} more that do not count", there - shown));
+        }
     }
     lines
 }

@@ -1,14 +1,14 @@
 -- The bounding cone, as upstream's src/sph_geom/cone.rs has it, up to the arc sine.
 use Prim.Native.Nat.{ℕ}
-use mathlib.Core.Bool.{Bool, not, _&&_}
+use mathlib.Core.Bool.{not}
 use mathlib.Core.List.{List, [], _∷_}
 use lib.Ieee.{Float}
 use Rattle.coo3d.specs.declared.Coo3D.{Coo3D}
 use Rattle.coo3d.specs.declared.Vect3.{Vect3}
 use Rattle.coo3d.specs.declared.UnitVect3.{UnitVect3}
-use Rattle.coo3d.specs.Vectors.{vectOfPoint, vectOfUnit, normOf, unitOf, squaredDistOf}
+use Rattle.coo3d.specs.Vectors.{vectOfPoint, vectOfUnit, normOf, unitOf, squaredDistOf, isFiniteUnit}
 use Rattle.domain.specs.Checks.{pointsOf}
-use Rattle.float.specs.Doubles.{_⊕_, _⊘_, nought, isFinite, maxOf}
+use Rattle.float.specs.Doubles.{_⊕_, _⊘_, nought, maxOf}
 use Rattle.refusal.specs.Answer.{Answer, answered, refusedFor, refuseIf, andThen}
 use Rattle.cone.specs.declared.Cone.{Cone}
 use Rattle.cone.specs.declared.ConeAnswer.{ConeAnswer}
@@ -40,9 +40,6 @@ d2MaxFrom d2 c (p ∷ ps) = d2MaxFrom (maxOf d2 (squaredDistOf c (vectOfPoint p)
 
 abbrev pub d2MaxOf : UnitVect3 → List Coo3D → Float
 d2MaxOf c ps = d2MaxFrom nought (vectOfUnit c) ps
-
-abbrev pub isFiniteUnit : UnitVect3 → Bool
-isFiniteUnit u = isFinite (u .x) && isFinite (u .y) && isFinite (u .z)
 
 -- a centre that is not finite is 6
 abbrev pub coneAt : UnitVect3 → List Coo3D → Answer Cone

@@ -2,7 +2,7 @@
 ghost use mathlib.Core.Path.{_≡_};
 ghost use Prim.Native.Nat.{_≤_};
 ghost use lib.ListN.{take};
-ghost use Rattle.cone.specs.Cone.{coneAnswer, boundingConeOf, gravityCenter, centerOf, d2MaxOf, isFiniteUnit};
+ghost use Rattle.cone.specs.Cone.{coneAnswer, boundingConeOf, gravityCenter, centerOf, d2MaxOf};
 use coo3d::Coo3D;
 use coo3d::UnitVect3;
 use coo3d::Vect3;
@@ -62,12 +62,6 @@ fn d2_max(center: UnitVect3, points: [Coo3D; 64], count: usize) -> f64
     d2
 }
 
-fn is_finite_unit(v: UnitVect3) -> bool
-    ensures { λ r. ⌜ r ≡ isFiniteUnit v ⌝ }
-{
-    float::is_finite(v.x) & float::is_finite(v.y) & float::is_finite(v.z)
-}
-
 // Not the smallest cone, but one that holds the first `count` points, of which there are 1 to 64.
 pub fn bounding_cone(points: [Coo3D; 64], count: usize) -> ConeAnswer
     ensures { λ r. ⌜ coneAnswer r ≡ boundingConeOf points count ⌝ }
@@ -79,7 +73,7 @@ pub fn bounding_cone(points: [Coo3D; 64], count: usize) -> ConeAnswer
         Outcome::Done => {
             let ps = checked.points;
             let center = center_of(gravity_center(ps, count));
-            if is_finite_unit(center) {
+            if center.is_finite() {
                 ConeAnswer::Made(Cone {
                     center,
                     d2_max: d2_max(center, ps, count),

@@ -1,7 +1,7 @@
 -- The vector operations, each float operation in upstream's order and rounded once.
-use mathlib.Core.Bool.{Bool, cond}
+use mathlib.Core.Bool.{Bool, _&&_, cond}
 use lib.Ieee.{Float, binary64, neg, le, ofBits}
-use Rattle.float.specs.Doubles.{_⊕_, _⊖_, _⊗_, _⊘_, one, pow2, absOf}
+use Rattle.float.specs.Doubles.{_⊕_, _⊖_, _⊗_, _⊘_, one, pow2, absOf, isFinite}
 use Rattle.root.specs.Root.{sqrtOf}
 use Rattle.coo3d.specs.declared.Coo3D.{Coo3D}
 use Rattle.coo3d.specs.declared.Vect3.{Vect3}
@@ -58,3 +58,6 @@ unitOf x y z = cond (isUnit (squaredNorm x y z)) (record { x = x; y = y; z = z }
 
 abbrev pub unitOppositeOf : UnitVect3 → UnitVect3
 unitOppositeOf u = unitOf (neg (u .x)) (neg (u .y)) (neg (u .z))
+
+abbrev pub isFiniteUnit : UnitVect3 → Bool
+isFiniteUnit u = isFinite (u .x) && isFinite (u .y) && isFinite (u .z)

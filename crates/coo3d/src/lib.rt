@@ -1,6 +1,6 @@
 // Points and vectors. Upstream: src/sph_geom/coo3d.rs, whose trait `Vec3` is here the struct `Vect3` and a `to_vect3` of each other type.
 ghost use mathlib.Core.Path.{_≡_};
-ghost use Rattle.coo3d.specs.Vectors.{vectOfPoint, vectOfUnit, dotOf, crossOf, oppositeOf, squaredNorm, normOf, isUnit, normalizedOf, squaredDistOf, unitOf, unitOppositeOf};
+ghost use Rattle.coo3d.specs.Vectors.{vectOfPoint, vectOfUnit, dotOf, crossOf, oppositeOf, squaredNorm, normOf, isUnit, normalizedOf, squaredDistOf, unitOf, unitOppositeOf, isFiniteUnit};
 
 // A point of the sphere, by Cartesian and by geographic coordinates, which need not agree.
 pub struct Coo3D {
@@ -137,6 +137,12 @@ impl UnitVect3 {
         ensures { λ r. ⌜ r ≡ unitOppositeOf self ⌝ }
     {
         UnitVect3::new(-self.x, -self.y, -self.z)
+    }
+
+    pub fn is_finite(self) -> bool
+        ensures { λ r. ⌜ r ≡ isFiniteUnit self ⌝ }
+    {
+        float::is_finite(self.x) & float::is_finite(self.y) & float::is_finite(self.z)
     }
 
     pub fn to_vect3(self) -> Vect3

@@ -6,17 +6,13 @@ use mathlib.Core.Path.{_≡_, refl, sym, ap, _∙_}
 use mathlib.Core.Bool.{Bool, true, false, not}
 use mathlib.Core.List.{List, [], _∷_, _++_, append-nil}
 use lib.ListN.{length, take, drop, getD, set}
-use lib.Dec.{eqb, ltb}
-use borrow.Author.Tests.{eqb-false, ltb-false, eq-eqb, ne-eqb, le-ltb, lt-ltb}
 use Rattle.coo3d.specs.declared.Coo3D.{Coo3D}
 use Rattle.lists.proofs.Passing.{next-left, none-left, stored}
 use Rattle.refusal.specs.Answer.{Answer, answered, refused, refuseIf, andThen}
-use Rattle.refusal.proofs.Answers.{then-answered, then-assoc, then-same}
+use Rattle.refusal.proofs.Answers.{then-answered, then-assoc, then-same, never}
 use Rattle.domain.specs.Domain.{inDomain}
 use Rattle.domain.specs.Checks.{pointAt, pointsFrom, pointsOf}
-
-never : {A B : Type 0} {a : A} {n : ℕ} {vs : List ℕ} → refused n vs ≡ answered a → B
-never e = absurd (let z : _≡_ {A = ℕ} 0 1 = cc e in omega arith)
+use Rattle.domain.proofs.Counts.{count-answered}
 
 -- a point that is refused is refused as 1, with its index
 pub point-refused : (i : ℕ) (p : Coo3D) (n : ℕ) (vs : List ℕ) → refused n vs ≡ pointAt i p → pointAt i p ≡ refused 1 (i ∷ [])
@@ -59,29 +55,7 @@ pub far-end : (l : List Coo3D) (n i : ℕ) (out : List Coo3D) → n ≤ length l
 unfolding soFar pointsFrom
 far-end l n i out long e = rw (none-left l n i long (omega arith), append-nil, e)
 
--- ---- the counts
-
-pub none-given : (l : List Coo3D) (n : ℕ) → n ≡ 0 → pointsOf l n ≡ refused 2 []
-unfolding pointsOf
-none-given l n e = simp (eq-eqb _ _ e)
-
-pub too-many : (l : List Coo3D) (n : ℕ) → (n ≡ 0 → ⊥) → 64 < n → pointsOf l n ≡ refused 3 []
-unfolding pointsOf
-too-many l n z h = simp (ne-eqb _ _ z, lt-ltb _ _ h)
-
-pub counted : (l : List Coo3D) (n : ℕ) → (n ≡ 0 → ⊥) → n ≤ 64 → pointsOf l n ≡ pointsFrom 0 (take n l)
-unfolding pointsOf
-counted l n z h = simp (ne-eqb _ _ z, le-ltb _ _ h)
-
--- points that were taken are 1 to 64
+-- points that were taken are 1 to 64, and as many as were asked for
 pub points-count : (l : List Coo3D) (n : ℕ) (qs : List Coo3D) → pointsOf l n ≡ answered qs → (0 < n) × (n ≤ 64)
 unfolding pointsOf
-points-count l n qs = go (eqb n 0) (ltb 64 n) refl refl
-  where
-    go : (a b : Bool) → eqb n 0 ≡ a → ltb 64 n ≡ b → refuseIf a 2 [] (refuseIf b 3 [] (pointsFrom 0 (take n l))) ≡ answered qs → (0 < n) × (n ≤ 64)
-    go true b p q e = never e
-    go false true p q e = never e
-    go false false p q e = (pos-of-ne n (eqb-false n 0 p), ltb-false 64 n q)
-      where
-        pos-of-ne : (n : ℕ) → (n ≡ 0 → ⊥) → 0 < n
-        pos-of-ne n h = omega arith
+points-count l n qs = count-answered n (pointsFrom 0 (take n l)) qs

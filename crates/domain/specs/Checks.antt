@@ -33,6 +33,10 @@ unfoldable pub pointsFrom : ℕ → List Coo3D → Answer (List Coo3D)
 pointsFrom index [] = answered []
 pointsFrom index (p ∷ ps) = andThen (pointAt index p) (λ q. andThen (pointsFrom (suc index) ps) (λ qs. answered (q ∷ qs)))
 
--- the first `count` of the points: none is 2, more than 64 are 3, then a point outside the domain is 1
+-- a count of 0 is 2, and one above 64 is 3
+abbrev pub withCount : {A : Type 0} → ℕ → Answer A → Answer A
+withCount count next = refuseIf (eqb count 0) 2 [] (refuseIf (ltb 64 count) 3 [] next)
+
+-- the first `count` of the points: the count is tested first, then each point
 unfoldable pub pointsOf : List Coo3D → ℕ → Answer (List Coo3D)
-pointsOf points count = refuseIf (eqb count 0) 2 [] (refuseIf (ltb 64 count) 3 [] (pointsFrom 0 (take count points)))
+pointsOf points count = withCount count (pointsFrom 0 (take count points))

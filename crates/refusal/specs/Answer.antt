@@ -5,7 +5,9 @@ use mathlib.Core.Bool.{Bool, true, false}
 use mathlib.Core.List.{List}
 use Rattle.refusal.specs.declared.Cause.{Cause}
 use Rattle.refusal.specs.declared.Outcome.{Outcome}
-use Rattle.refusal.specs.declared.Outcome.the-variants.{Done, Refused}
+use Rattle.refusal.specs.declared.Outcome.the-variants as outcome
+use Rattle.refusal.specs.declared.Decision.{Decision}
+use Rattle.refusal.specs.declared.Decision.the-variants as decision
 use Rattle.refusal.specs.Table.{numberOf, valuesOf}
 
 pub data Answer (A : Type 0) : Type 0 where
@@ -18,8 +20,13 @@ refusedFor cause = refused (numberOf cause) (valuesOf cause)
 
 -- an outcome beside a result, which counts only where the call is done
 abbrev pub outcomeOf : {A : Type 0} → Outcome → A → Answer A
-outcomeOf Done a = answered a
-outcomeOf (Refused cause) a = refusedFor cause
+outcomeOf outcome.Done a = answered a
+outcomeOf (outcome.Refused cause) a = refusedFor cause
+
+abbrev pub decisionAnswer : Decision → Answer Bool
+decisionAnswer decision.Yes = answered true
+decisionAnswer decision.No = answered false
+decisionAnswer (decision.Refused cause) = refusedFor cause
 
 -- refused with this number and these values where the test holds, and else what follows
 abbrev pub refuseIf : {A : Type 0} → Bool → ℕ → List ℕ → Answer A → Answer A

@@ -1,5 +1,6 @@
 // The causes for which a call refuses, as document 01's table lists them. Upstream panics, or has no such case.
 ghost use mathlib.Core.Path.{_≡_};
+ghost use Rattle.refusal.specs.Answer.{answered, decisionAnswer};
 ghost use Rattle.refusal.specs.Table.{numberOf};
 
 pub enum Cause {
@@ -29,6 +30,13 @@ pub enum Outcome {
     Refused(Cause),
 }
 
+// The answer of a question.
+pub enum Decision {
+    Yes,
+    No,
+    Refused(Cause),
+}
+
 // The cause's number in the table.
 pub fn number(cause: Cause) -> u64
     ensures { λ r. ⌜ r ≡ numberOf cause ⌝ }
@@ -44,4 +52,10 @@ pub fn number(cause: Cause) -> u64
         Cause::ShortOutput(_) => 8,
         Cause::ZoneBounds => 9,
     }
+}
+
+pub fn decide(yes: bool) -> Decision
+    ensures { λ r. ⌜ decisionAnswer r ≡ answered yes ⌝ }
+{
+    if yes { Decision::Yes } else { Decision::No }
 }

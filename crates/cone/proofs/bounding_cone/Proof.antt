@@ -8,11 +8,12 @@ use lib.ListN.{take}
 use Rattle.coo3d.specs.declared.Coo3D.{Coo3D}
 use Rattle.coo3d.specs.declared.Vect3.{Vect3}
 use Rattle.coo3d.specs.declared.UnitVect3.{UnitVect3}
+use Rattle.coo3d.specs.Vectors.{isFiniteUnit}
 use Rattle.domain.specs.Checks.{pointsOf}
 use Rattle.domain.proofs.Points.{points-count}
 use Rattle.refusal.specs.Answer.{answered, refused, outcomeOf}
 use Rattle.refusal.specs.declared.Outcome.{Outcome}
-use Rattle.cone.specs.Cone.{boundingConeOf, coneAt, centerOf, gravityCenter, d2MaxOf, isFiniteUnit}
+use Rattle.cone.specs.Cone.{boundingConeOf, coneAt, centerOf, gravityCenter, d2MaxOf}
 use borrow.Author.Needs.{needs}
 use Rattle.cone.proofs.bounding_cone.Statement.{statement}
 use Rattle.cone.proofs.bounding_cone.Tie as tie
@@ -21,7 +22,7 @@ use Rattle.cone.proofs.bounding_cone.Lts as lts
 use Rattle.cone.proofs.center_of.Reads as center-of-reads
 use Rattle.cone.proofs.d2_max.Reads as d2-max-reads
 use Rattle.cone.proofs.gravity_center.Reads as gravity-center-reads
-use Rattle.cone.proofs.is_finite_unit.Reads as is-finite-unit-reads
+use Rattle.coo3d.proofs.UnitVect3.is_finite.Reads as is-finite-reads
 use Rattle.domain.proofs.check_points.Reads as check-points-reads
 
 passed-on : (l : List Coo3D) (n k : ℕ) (vs : List ℕ) → refused k vs ≡ pointsOf l n → refused k vs ≡ boundingConeOf l n
@@ -63,8 +64,8 @@ center-of-requires : tie.Need-center-of-requires
 center-of-requires c κs = search needs
 
 -- src/lib.rt:82:16
-is-finite-unit-requires : tie.Need-is-finite-unit-requires
-is-finite-unit-requires c κs = search needs
+is-finite-requires : tie.Need-is-finite-requires
+is-finite-requires c κs = search needs
 
 -- src/lib.rt:85:29
 d2-max-requires : tie.Need-d2-max-requires
@@ -80,14 +81,14 @@ returns c =
 -- src/lib.rt:72:1
 returns-2 : tie.Need-returns-2
 returns-2 c =
-    made _ _ _ _ (c .before .before .is-finite-unit .ensures) (c .before .if1 .taken) (c .d2-max .ensures)
+    made _ _ _ _ (c .before .before .is-finite .ensures) (c .before .if1 .taken) (c .d2-max .ensures)
     ∙ taken _ _ _ _ _ (done (c .before .before .before .before .before)) (c .before .before .before .before .gravity-center .ensures) (c .before .before .before .center-of .ensures)
 
 -- src/lib.rt:72:1
 returns-3 : tie.Need-returns-3
 returns-3 c =
     let ps = take (c .before .before .before .before .before .before .before .before .args .count) (c .before .before .before .before .before .before .before .check-points .result .points) in
-    not-finite (c .before .before .center-of .result) ps _ (c .before .is-finite-unit .ensures) (c .if1 .left)
+    not-finite (c .before .before .center-of .result) ps _ (c .before .is-finite .ensures) (c .if1 .left)
     ∙ taken _ _ ps _ _ (done (c .before .before .before .before)) (c .before .before .before .gravity-center .ensures) (c .before .before .center-of .ensures)
 
 pub bounding-cone-spec : {M : Type 1} → statement M
@@ -99,7 +100,7 @@ bounding-cone-spec =
     enum-told
     gravity-center-requires
     center-of-requires
-    is-finite-unit-requires
+    is-finite-requires
     d2-max-requires
     returns
     returns-2

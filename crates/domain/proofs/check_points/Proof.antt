@@ -3,8 +3,9 @@ use native.Mathlib.Omega.{arith}
 use mathlib.Core.Path.{_≡_, sym, ap, _∙_}
 use borrow.Author.Needs.{needs}
 use lib.ListN.{length, take, length-set}
-use Rattle.domain.specs.Checks.{pointAnswer, pointsFrom}
-use Rattle.domain.proofs.Points.{soFar, far-start, far-good, far-bad, far-end, none-given, too-many, counted}
+use Rattle.domain.specs.Checks.{pointAnswer, pointsFrom, pointsOf}
+use Rattle.domain.proofs.Points.{soFar, far-start, far-good, far-bad, far-end}
+use Rattle.domain.proofs.Counts.{count-none, count-many, count-few}
 use Rattle.domain.proofs.check_points.Statement.{statement}
 use Rattle.domain.proofs.check_points.Tie as tie
 use Rattle.domain.proofs.check_points.Reads as reads
@@ -23,11 +24,13 @@ long c h = let e : length (c .args .t1) ≡ 64 = search needs in omega arith
 
 -- src/lib.rt:70:9
 returns : tie.Need-returns Inv-loop μ-loop
-returns c = sym (none-given _ _ (c .if1 .taken))
+unfolding pointsOf
+returns c = sym (count-none _ _ (c .if1 .taken))
 
 -- src/lib.rt:76:9
 returns-2 : tie.Need-returns-2 Inv-loop μ-loop
-returns-2 c = sym (too-many _ _ (c .before .if1 .left) (c .if2 .taken))
+unfolding pointsOf
+returns-2 c = sym (count-many _ _ (c .before .if1 .left) (c .if2 .taken))
 
 -- src/lib.rt:83:5
 loop-holds : tie.Need-loop-holds Inv-loop μ-loop
@@ -55,11 +58,12 @@ enum-told c = search needs
 
 -- src/lib.rt:86:13
 returns-3 : tie.Need-returns-3 Inv-loop μ-loop
+unfolding pointsOf
 returns-3 c =
     let s = c .before .before .before .before .before .before .before .before in
     let l = c .before .before .before .before .before .loop in
     let told = ap pointAnswer (sym (c .enum-told .given .1)) ∙ c .before .before .check-point .ensures in
-    sym (far-bad _ _ _ (l .out) _ (long s (search needs)) (search needs) _ _ told) ∙ l .inv .1 .1 ∙ sym (counted _ _ (search needs) (search needs))
+    sym (far-bad _ _ _ (l .out) _ (long s (search needs)) (search needs) _ _ told) ∙ l .inv .1 .1 ∙ sym (count-few (s .args .count) _ (search needs) (search needs))
 
 -- src/lib.rt:91:9
 mul-out : tie.Need-mul-out Inv-loop μ-loop
@@ -92,10 +96,11 @@ loop-again c =
 
 -- src/lib.rt:66:1
 returns-4 : tie.Need-returns-4 Inv-loop μ-loop
+unfolding pointsOf
 returns-4 c =
     let s = c .before .before .before .before in
     let l = c .before .loop in
-    sym (far-end _ _ _ (l .out) (long s (search needs)) (search needs)) ∙ l .inv .1 .1 ∙ sym (counted _ _ (search needs) (search needs))
+    sym (far-end _ _ _ (l .out) (long s (search needs)) (search needs)) ∙ l .inv .1 .1 ∙ sym (count-few (s .args .count) _ (search needs) (search needs))
 
 pub check-points-spec : {M : Type 1} → statement M
 check-points-spec =

@@ -1,9 +1,9 @@
-use Rattle.cone.specs.Cone.{isFiniteUnit}
+use Rattle.coo3d.specs.Vectors.{isFiniteUnit}
 use borrow.Author.Needs.{needs}
-use Rattle.cone.proofs.is_finite_unit.Statement.{statement}
-use Rattle.cone.proofs.is_finite_unit.Tie as tie
-use Rattle.cone.proofs.is_finite_unit.Reads as reads
-use Rattle.cone.proofs.is_finite_unit.Lts as lts
+use Rattle.coo3d.proofs.UnitVect3.is_finite.Statement.{statement}
+use Rattle.coo3d.proofs.UnitVect3.is_finite.Tie as tie
+use Rattle.coo3d.proofs.UnitVect3.is_finite.Reads as reads
+use Rattle.coo3d.proofs.UnitVect3.is_finite.Lts as lts
 use Rattle.float.proofs.is_finite.Reads as is-finite-reads
 
 -- src/lib.rt:68:5
@@ -22,6 +22,6 @@ is-finite-requires-3 c κs = search needs
 returns : tie.Need-returns
 returns c = simp (c .before .before .is-finite .ensures, c .before .is-finite2 .ensures, c .is-finite3 .ensures)
 
-pub is-finite-unit-spec : {M : Type 1} → statement M
-is-finite-unit-spec =
+pub is-finite-spec : {M : Type 1} → statement M
+is-finite-spec =
     tie.close (tie.spec is-finite-requires is-finite-requires-2 is-finite-requires-3 returns)

@@ -1,0 +1,3 @@
+pub mod Arcs
+pub mod Circles
+pub mod Queries

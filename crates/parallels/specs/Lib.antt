@@ -1,0 +1,2 @@
+pub mod Parallels
+pub mod Queries

@@ -1,0 +1,5 @@
+pub mod Lengths
+pub mod Edges
+pub mod Corners
+pub mod Odd
+pub mod Flags

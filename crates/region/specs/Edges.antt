@@ -1,0 +1,32 @@
+-- Edges, their normals, and which are counted at a point: document 01, 'Point and edge'.
+use mathlib.Core.Bool.{Bool, _&&_, Bool·beq, cond}
+use lib.Ieee.{Float, neg, lt, le}
+use Rattle.coo3d.specs.declared.Coo3D.{Coo3D}
+use Rattle.coo3d.specs.declared.Vect3.{Vect3}
+use Rattle.coo3d.specs.Vectors.{vectOfPoint, dotOf, crossOf, oppositeOf}
+use Rattle.float.specs.Doubles.{_⊖_, nought, pi, halfOpen}
+
+pub record Edge : Type 0 where
+  pub from : Coo3D
+  pub to : Coo3D
+  pub normal : Vect3
+
+-- every component negated where z is below 0; a z of 0 is not turned
+unfoldable pub northward : Vect3 → Vect3
+northward v = cond (lt (v .z) nought) (oppositeOf v) v
+
+-- `cross_product` of start and end, turned north
+unfoldable pub normalOf : Coo3D → Coo3D → Vect3
+normalOf from to = northward (crossOf (vectOfPoint from) (vectOfPoint to))
+
+-- `is_in_lon_range`: an absolute step up to and including PI does not cross the seam, and equal longitudes are never in range
+abbrev pub inRangeByStep : Float → Float → Float → Float → Bool
+inRangeByStep step lon lon1 lon2 =
+    cond (lt step nought) (Bool·beq (le (neg pi) step) (halfOpen lon2 lon lon1)) (Bool·beq (le step pi) (halfOpen lon1 lon lon2))
+
+unfoldable pub inLonRange : Float → Float → Float → Bool
+inLonRange lon lon1 lon2 = inRangeByStep (lon2 ⊖ lon1) lon lon1 lon2
+
+-- in range at the point, and `dot_product` of point and normal exceeds 0
+unfoldable pub isCounted : Coo3D → Edge → Bool
+isCounted p e = inLonRange (p .lon) (e .from .lon) (e .to .lon) && lt nought (dotOf (vectOfPoint p) (e .normal))

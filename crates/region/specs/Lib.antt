@@ -1,0 +1,4 @@
+pub mod Edges
+pub mod View
+pub mod Poles
+pub mod Region

@@ -1,0 +1,38 @@
+-- Building a region, and containment: what the calls answer.
+use Prim.Native.Nat.{ℕ}
+use mathlib.Core.Bool.{Bool, false}
+use mathlib.Core.List.{List}
+use Rattle.coo3d.specs.declared.Coo3D.{Coo3D}
+use Rattle.domain.specs.Checks.{pointAt, pointsOf, withCount}
+use Rattle.refusal.specs.Answer.{Answer, answered, andThen}
+use Rattle.region.specs.declared.ContainsSouthPoleMethod.{ContainsSouthPoleMethod}
+use Rattle.region.specs.declared.ContainsSouthPoleMethod.the-variants.{Default, DefaultComplement, ContainsSouthPole, DoNotContainsSouthPole, ControlPointIn, ControlPointOut}
+use Rattle.region.specs.View.{View, exactlyOne, oddAt, made, contained}
+use Rattle.region.specs.Poles.{ruleFlag}
+
+-- every call on a region value tests its count first
+unfoldable pub containsOf : View → Coo3D → Answer Bool
+containsOf v p = withCount (v .count) (andThen (pointAt 0 p) (λ q. answered (contained q v)))
+
+-- ---- the flag, and building
+
+-- the rule with its control point checked, which has this index
+unfoldable pub ruleAt : ℕ → ContainsSouthPoleMethod → Answer ContainsSouthPoleMethod
+ruleAt index Default = answered Default
+ruleAt index DefaultComplement = answered DefaultComplement
+ruleAt index ContainsSouthPole = answered ContainsSouthPole
+ruleAt index DoNotContainsSouthPole = answered DoNotContainsSouthPole
+ruleAt index (ControlPointIn p) = andThen (pointAt index p) (λ q. answered (ControlPointIn q))
+ruleAt index (ControlPointOut p) = andThen (pointAt index p) (λ q. answered (ControlPointOut q))
+
+-- the flag with which the point, checked, is contained, or is not
+unfoldable pub controlAt : View → Coo3D → Bool → Answer Bool
+controlAt v p isIn = andThen (pointAt (v .count) p) (λ q. answered (exactlyOne (oddAt q v) isIn))
+
+-- the flag that a rule sets for a region's corners and normals; its control point counts after the corners
+unfoldable pub flagOf : View → ContainsSouthPoleMethod → Answer Bool
+flagOf v rule = withCount (v .count) (andThen (ruleAt (v .count) rule) (λ checked. answered (ruleFlag checked v)))
+
+-- the corners are checked (2, 3, 1), then the rule's control point; the rule sets the flag
+unfoldable pub buildOf : List Coo3D → ℕ → ContainsSouthPoleMethod → Answer View
+buildOf points count rule = andThen (pointsOf points count) (λ cs. andThen (flagOf (made cs false) rule) (λ flag. answered (made cs flag)))

@@ -1,0 +1,78 @@
+-- What a region is to every call: its count, the corners and normals below it, and the flag.
+use Prim.Native.Nat.{ℕ}
+use mathlib.Core.Bool.{Bool, false, not, Bool·beq}
+use mathlib.Core.List.{List, [], _∷_}
+use lib.Ieee.{nan}
+use lib.ListN.{length, take}
+use Rattle.coo3d.specs.declared.Coo3D.{Coo3D}
+use Rattle.coo3d.specs.declared.Vect3.{Vect3}
+use Rattle.region.specs.declared.Region.{Region}
+use Rattle.region.specs.Edges.{Edge, normalOf, isCounted}
+
+pub record View : Type 0 where
+  pub count : ℕ
+  pub corners : List Coo3D
+  pub normals : List Vect3
+  pub flag : Bool
+
+abbrev pub viewOf : Region → View
+viewOf r =
+    record {
+      count = r .count;
+      corners = take (r .count) (r .vertices);
+      normals = take (r .count) (r .«cross_products»);
+      flag = r .«contains_south_pole»;
+    }
+
+abbrev pub withFlag : View → Bool → View
+withFlag v flag = record { count = v .count; corners = v .corners; normals = v .normals; flag = flag }
+
+-- ---- edges
+
+-- the last corner; `nowhere` is read only where there is none
+abbrev pub nowhere : Coo3D
+nowhere = record { x = nan; y = nan; z = nan; lon = nan; lat = nan }
+
+unfoldable pub lastOf : {A : Type 0} → A → List A → A
+lastOf d [] = d
+lastOf d (a ∷ rest) = lastOf a rest
+
+-- each edge runs from the corner before to the next, the first from `from`
+unfoldable pub edgesFrom : Coo3D → List Coo3D → List Vect3 → List Edge
+edgesFrom from [] normals = []
+edgesFrom from (c ∷ cs) [] = []
+edgesFrom from (c ∷ cs) (n ∷ ns) = record { from = from; to = c; normal = n } ∷ edgesFrom c cs ns
+
+-- edge 0 starts at the last corner
+unfoldable pub edgesOf : View → List Edge
+edgesOf v = edgesFrom (lastOf nowhere (v .corners)) (v .corners) (v .normals)
+
+-- exactly one of the two holds
+abbrev pub exactlyOne : Bool → Bool → Bool
+exactlyOne a b = not (Bool·beq a b)
+
+-- whether an odd number of the list has a property
+unfoldable pub oddMany : {A : Type 0} → (A → Bool) → List A → Bool
+oddMany has [] = false
+oddMany has (a ∷ rest) = exactlyOne (has a) (oddMany has rest)
+
+-- an odd number of edges is counted at the point
+unfoldable pub oddAt : Coo3D → View → Bool
+oddAt p v = oddMany (isCounted p) (edgesOf v)
+
+-- exactly one of these holds: the flag is set; an odd number of edges is counted
+unfoldable pub contained : Coo3D → View → Bool
+contained p v = exactlyOne (v .flag) (oddAt p v)
+
+-- ---- a region made of a list of corners
+
+unfoldable pub normalsFrom : Coo3D → List Coo3D → List Vect3
+normalsFrom from [] = []
+normalsFrom from (c ∷ cs) = normalOf from c ∷ normalsFrom c cs
+
+unfoldable pub normalsOf : List Coo3D → List Vect3
+normalsOf cs = normalsFrom (lastOf nowhere cs) cs
+
+-- the corners with their edges' normals, and a flag
+abbrev pub made : List Coo3D → Bool → View
+made cs flag = record { count = length cs; corners = cs; normals = normalsOf cs; flag = flag }

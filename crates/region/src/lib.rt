@@ -1,0 +1,275 @@
+// Regions: polygons on the sphere with a pole flag, how they are built, and which points they contain. Upstream: `Polygon` in src/sph_geom/mod.rs.
+ghost use mathlib.Core.Path.{_≡_};
+ghost use Prim.Native.Nat.{_≤_, _<_};
+ghost use lib.ListN.{take};
+ghost use Rattle.refusal.specs.Answer.{answered, refusedFor, outcomeOf, decisionAnswer, andThen};
+ghost use Rattle.region.specs.Edges.{Edge, normalOf, inLonRange, isCounted};
+ghost use Rattle.region.specs.View.{viewOf, withFlag, normalsOf, oddAt};
+ghost use Rattle.region.specs.Region.{controlAt, flagOf, buildOf, containsOf};
+ghost use Rattle.region.specs.Poles.{stepOf, basicOf};
+use coo3d::Coo3D;
+use coo3d::Vect3;
+use domain::PointCheck;
+use refusal::Cause;
+use refusal::Decision;
+use refusal::Outcome;
+
+// The first `count` entries of the two arrays are the corners, and each edge's normal; the others are free. Edge i runs from corner i - 1 to
+// corner i, edge 0 from the last corner. A value handed in counts as its fields are.
+pub struct Region {
+    pub vertices: [Coo3D; 64],
+    pub cross_products: [Vect3; 64],
+    pub count: usize,
+    pub contains_south_pole: bool,
+}
+
+// The rule that sets the flag.
+pub enum ContainsSouthPoleMethod {
+    Default,
+    DefaultComplement,
+    ContainsSouthPole,
+    DoNotContainsSouthPole,
+    ControlPointIn(Coo3D),
+    ControlPointOut(Coo3D),
+}
+
+// The region is free where the build is refused.
+pub struct Built {
+    pub region: Region,
+    pub outcome: Outcome,
+}
+
+// The edge's normal, turned north.
+pub fn edge_normal(from: Coo3D, to: Coo3D) -> Vect3
+    ensures { λ r. ⌜ r ≡ normalOf from to ⌝ }
+{
+    let v = coo3d::cross_product(from.to_vect3(), to.to_vect3());
+    if v.z < 0.0 { v.opposite() } else { v }
+}
+
+pub fn is_in_lon_range(coo: Coo3D, v1: Coo3D, v2: Coo3D) -> bool
+    ensures { λ r. ⌜ r ≡ inLonRange (coo .lon) (v1 .lon) (v2 .lon) ⌝ }
+{
+    let dlon = v2.lon - v1.lon;
+    if dlon < 0.0 {
+        (dlon >= -float::PI) == float::within_half_open(v2.lon, coo.lon, v1.lon)
+    } else {
+        (dlon <= float::PI) == float::within_half_open(v1.lon, coo.lon, v2.lon)
+    }
+}
+
+// Whether the edge is in range at the point, and the point north of its plane.
+pub fn is_counted(coo: Coo3D, from: Coo3D, to: Coo3D, normal: Vect3) -> bool
+    ensures { λ r. ⌜ r ≡ isCounted coo (record { from = from; to = to; normal = normal }) ⌝ }
+{
+    is_in_lon_range(coo, from, to) & (coo3d::dot_product(coo.to_vect3(), normal) > 0.0)
+}
+
+// Each edge's normal.
+fn compute_cross_products(vertices: [Coo3D; 64], count: usize) -> [Vect3; 64]
+    requires { ⌜ (0 < count) × (count ≤ 64) ⌝ }
+    ensures { λ r. ⌜ take count r ≡ normalsOf (take count vertices) ⌝ }
+{
+    let zero = Vect3 {
+        x: 0.0,
+        y: 0.0,
+        z: 0.0,
+    };
+    let mut out = [zero; 64];
+    let last = count - 1;
+    let mut from = vertices[last];
+    let mut i: usize = 0;
+    while i < count {
+        let to = vertices[i];
+        let n = edge_normal(from, to);
+        out[i] = n;
+        from = to;
+        i += 1;
+    }
+    out
+}
+
+// The sum of longitude steps, one more taken: the short way round where it crosses the seam.
+fn add_step(sum: f64, step: f64) -> f64
+    ensures { λ r. ⌜ r ≡ stepOf sum step ⌝ }
+{
+    let size = float::abs(step);
+    if size <= float::PI {
+        sum + step
+    } else if step > 0.0 {
+        sum - (float::TWO_PI - size)
+    } else {
+        sum + (float::TWO_PI - size)
+    }
+}
+
+// Upstream's `Basic`: the outline goes round a pole, and its corners lie south on the whole.
+fn basic(vertices: [Coo3D; 64], count: usize) -> bool
+    requires { ⌜ (0 < count) × (count ≤ 64) ⌝ }
+    ensures { λ r. ⌜ r ≡ basicOf (take count vertices) ⌝ }
+{
+    let last = count - 1;
+    let mut from = vertices[last];
+    let mut sum_delta_lon = 0.0;
+    let mut gravity_center_z = 0.0;
+    let mut i: usize = 0;
+    while i < count {
+        let to = vertices[i];
+        sum_delta_lon = add_step(sum_delta_lon, to.lon - from.lon);
+        gravity_center_z = gravity_center_z + to.z;
+        from = to;
+        i += 1;
+    }
+    (float::abs(sum_delta_lon) > float::PI) & (gravity_center_z < 0.0)
+}
+
+// Whether an odd number of edges is counted at the point.
+fn odd_num_intersect_going_south(r: Region, coo: Coo3D) -> bool
+    requires { ⌜ (0 < r .count) × (r .count ≤ 64) ⌝ }
+    ensures { λ b. ⌜ b ≡ oddAt coo (viewOf r) ⌝ }
+{
+    let count = r.count;
+    let last = count - 1;
+    let mut from = r.vertices[last];
+    let mut odd = false;
+    let mut i: usize = 0;
+    while i < count {
+        let to = r.vertices[i];
+        let n = r.cross_products[i];
+        odd = odd != is_counted(coo, from, to, n);
+        from = to;
+        i += 1;
+    }
+    odd
+}
+
+// The flag with which the region contains the control point, or does not.
+fn flag_for_control_point(r: Region, control_point: Coo3D, is_in: bool) -> Decision
+    requires { ⌜ (0 < r .count) × (r .count ≤ 64) ⌝ }
+    ensures { λ d. ⌜ decisionAnswer d ≡ controlAt (viewOf r) «control_point» «is_in» ⌝ }
+{
+    let count = r.count;
+    let PointCheck::Point(coo) = domain::check_point(control_point, count) else {
+        return Decision::Refused(Cause::OutsideDomain(count));
+    };
+    refusal::decide(odd_num_intersect_going_south(r, coo) != is_in)
+}
+
+// The flag that the rule sets for a region of these corners and normals. A control point is numbered by the count.
+pub fn contains_south_pole(r: Region, method: ContainsSouthPoleMethod) -> Decision
+    ensures { λ d. ⌜ decisionAnswer d ≡ flagOf (viewOf r) method ⌝ }
+{
+    let count = r.count;
+    if count == 0 {
+        return Decision::Refused(Cause::NoPoint);
+    }
+    if count > 64 {
+        return Decision::Refused(Cause::TooManyPoints);
+    }
+    match method {
+        ContainsSouthPoleMethod::Default => {
+            let vertices = r.vertices;
+            refusal::decide(basic(vertices, count))
+        }
+        ContainsSouthPoleMethod::DefaultComplement => {
+            let vertices = r.vertices;
+            refusal::decide(!basic(vertices, count))
+        }
+        ContainsSouthPoleMethod::ContainsSouthPole => Decision::Yes,
+        ContainsSouthPoleMethod::DoNotContainsSouthPole => Decision::No,
+        ContainsSouthPoleMethod::ControlPointIn(p) => flag_for_control_point(r, p, true),
+        ContainsSouthPoleMethod::ControlPointOut(p) => flag_for_control_point(r, p, false),
+    }
+}
+
+pub fn contains(r: Region, coo: Coo3D) -> Decision
+    ensures { λ d. ⌜ decisionAnswer d ≡ containsOf (viewOf r) coo ⌝ }
+{
+    let count = r.count;
+    if count == 0 {
+        return Decision::Refused(Cause::NoPoint);
+    }
+    if count > 64 {
+        return Decision::Refused(Cause::TooManyPoints);
+    }
+    let PointCheck::Point(p) = domain::check_point(coo, 0) else {
+        return Decision::Refused(Cause::OutsideDomain(0));
+    };
+    refusal::decide(r.contains_south_pole != odd_num_intersect_going_south(r, p))
+}
+
+fn refused(cause: Cause) -> Built
+    ensures { λ b. ⌜ outcomeOf (b .outcome) (viewOf (b .region)) ≡ refusedFor cause ⌝ }
+{
+    let origin = Coo3D {
+        x: 0.0,
+        y: 0.0,
+        z: 0.0,
+        lon: 0.0,
+        lat: 0.0,
+    };
+    let zero = Vect3 {
+        x: 0.0,
+        y: 0.0,
+        z: 0.0,
+    };
+    Built {
+        region: Region {
+            vertices: [origin; 64],
+            cross_products: [zero; 64],
+            count: 0,
+            contains_south_pole: false,
+        },
+        outcome: Outcome::Refused(cause),
+    }
+}
+
+// The region with the flag that was decided.
+fn flagged(r: Region, flag: Decision) -> Built
+    ensures { λ b. ⌜ outcomeOf (b .outcome) (viewOf (b .region)) ≡ andThen (decisionAnswer flag) (λ f. answered (withFlag (viewOf r) f)) ⌝ }
+{
+    match flag {
+        Decision::Refused(cause) => Built {
+            region: r,
+            outcome: Outcome::Refused(cause),
+        },
+        Decision::Yes => {
+            let mut region = r;
+            region.contains_south_pole = true;
+            Built {
+                region,
+                outcome: Outcome::Done,
+            }
+        }
+        Decision::No => {
+            let mut region = r;
+            region.contains_south_pole = false;
+            Built {
+                region,
+                outcome: Outcome::Done,
+            }
+        }
+    }
+}
+
+// Upstream: `Polygon::new_custom_vec3`.
+pub fn build(points: [Coo3D; 64], count: usize, method: ContainsSouthPoleMethod) -> Built
+    ensures { λ b. ⌜ outcomeOf (b .outcome) (viewOf (b .region)) ≡ buildOf points count method ⌝ }
+{
+    let checked = domain::check_points(points, count);
+    let outcome = checked.outcome;
+    let vertices = checked.points;
+    match outcome {
+        Outcome::Refused(cause) => refused(cause),
+        Outcome::Done => {
+            let cross_products = compute_cross_products(vertices, count);
+            let region = Region {
+                vertices,
+                cross_products,
+                count,
+                contains_south_pole: false,
+            };
+            flagged(region, contains_south_pole(region, method))
+        }
+    }
+}

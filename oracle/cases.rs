@@ -1,0 +1,143 @@
+//! In which case of upstream's parallel calls an edge falls: our own reading of its conditions,
+//! for compare's report alone. No comparison rests on it.
+
+use stream::{MOST_POINTS, POINT_WORDS};
+
+use crate::edges::{cross, normals, vector, Point, Vector};
+
+/// The cases, by upstream's own letters. A is a normal with an x other than 0, B one without.
+#[derive(Clone, Copy, PartialEq, Eq)]
+enum Case {
+    /// The edge's latitudes do not take in the parallel.
+    NotFitting,
+    A1First,
+    A1Second,
+    A2,
+    ANone,
+    B1Point,
+    B1None,
+    B2First,
+    B2Second,
+}
+
+pub const NAMES: [&str; 9] = [
+    "latitudes do not fit",
+    "A.1, first solution",
+    "A.1, second solution",
+    "A.2",
+    "A, none",
+    "B.1, point",
+    "B.1, none",
+    "B.2, first solution",
+    "B.2, second solution",
+];
+
+/// How many edges fell in each case.
+pub type Counts = [u64; NAMES.len()];
+
+/// What the cases rest on: the corners, and the normal of the edge that ends at each.
+#[derive(Default)]
+pub struct Region {
+    corners: Vec<Point>,
+    normals: Vec<Vector>,
+}
+
+impl Region {
+    /// From the words of a build that was not refused.
+    pub fn built(request: &[u64]) -> Self {
+        let corners: Vec<Point> = entries(&request[2 + POINT_WORDS..]).collect();
+        Region {
+            normals: normals(&corners),
+            corners,
+        }
+    }
+
+    /// From the words of a region value; one that is refused holds no edge.
+    pub fn handed_in(request: &[u64]) -> Self {
+        let count = match request[0] {
+            count @ 0..=MOST_POINTS => count as usize,
+            _ => 0,
+        };
+        let (corners, normals) = request[2..].split_at(MOST_POINTS as usize * POINT_WORDS);
+        Region {
+            corners: entries(corners).take(count).collect(),
+            normals: entries(normals).take(count).collect(),
+        }
+    }
+
+    /// Adds every edge, or where `first` is set those up to the one that decides the first answer.
+    pub fn count(&self, parallel: &[u64], first: bool, counts: &mut Counts) {
+        let [lat, sine, cosine] = doubles(parallel);
+        let Some(mut start) = self.corners.last() else {
+            return;
+        };
+        for (end, normal) in self.corners.iter().zip(&self.normals) {
+            let case = case(start, end, normal, lat, sine, cosine);
+            counts[case as usize] += 1;
+            if first && case != Case::NotFitting {
+                return;
+            }
+            start = end;
+        }
+    }
+}
+
+fn case(start: &Point, end: &Point, n: &Vector, lat: f64, z: f64, cosine: f64) -> Case {
+    let (low, high) = if start[4] > end[4] {
+        (end, start)
+    } else {
+        (start, end)
+    };
+    if !(low[4]..high[4]).contains(&lat) {
+        return Case::NotFitting;
+    }
+    let [nx, ny, nz] = *n;
+    let (xn2, yn2, zn2) = (nx * nx, ny * ny, nz * nz);
+    let between = |p: Vector| {
+        let (to_low, to_high) = (cross(&p, &vector(low)), cross(&p, &vector(high)));
+        dot(&to_low, &to_high) < 0.0
+    };
+    if nx != 0.0 {
+        let two_a = 2.0 * (yn2 / xn2 + 1.0);
+        let b = 2.0 * ny * nz * z / xn2;
+        let c = zn2 * (z * z) / xn2 - cosine * cosine;
+        let delta = b * b - 2.0 * two_a * c;
+        if delta > 0.0 {
+            let y = (-b - delta.sqrt()) / two_a;
+            if between([-(ny * y + nz * z) / nx, y, z]) {
+                Case::A1First
+            } else {
+                Case::A1Second
+            }
+        } else if delta == 0.0 {
+            Case::A2
+        } else {
+            Case::ANone
+        }
+    } else if ny == 0.0 {
+        if z == 0.0 && z == low[2] {
+            Case::B1Point
+        } else {
+            Case::B1None
+        }
+    } else {
+        let x = (cosine * cosine - zn2 * (z * z) / yn2).sqrt();
+        if between([x, -nz * z / ny, z]) {
+            Case::B2First
+        } else {
+            Case::B2Second
+        }
+    }
+}
+
+fn entries<const N: usize>(words: &[u64]) -> impl Iterator<Item = [f64; N]> + '_ {
+    words.chunks_exact(N).map(doubles)
+}
+
+fn doubles<const N: usize>(words: &[u64]) -> [f64; N] {
+    std::array::from_fn(|i| f64::from_bits(words[i]))
+}
+
+fn dot(a: &Vector, b: &Vector) -> f64 {
+    a[0] * b[0] + a[1] * b[1] + a[2] * b[2]
+}
