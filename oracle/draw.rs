@@ -82,8 +82,13 @@ impl Draw {
         self.below(100) < share
     }
 
+    /// A place in a list of this length.
+    pub fn index(&mut self, length: usize) -> usize {
+        self.below(length as u64) as usize
+    }
+
     pub fn pick<T: Copy>(&mut self, from: &[T]) -> T {
-        from[self.below(from.len() as u64) as usize]
+        from[self.index(from.len())]
     }
 
     pub fn by_share<T: Copy>(&mut self, shares: &[(T, u64)]) -> T {
@@ -151,6 +156,19 @@ impl Draw {
             5 => stepped(greatest, self.whole(1, 1000) as i64),
             6 => greatest + self.between(0.001, 10.0),
             _ => least - self.between(0.001, 10.0),
+        }
+    }
+
+    /// Within the bounds, but for one in ten.
+    pub fn mostly_legal<const N: usize>(
+        &mut self,
+        values: [f64; N],
+        bounds: &[Interval; N],
+    ) -> [f64; N] {
+        if self.percent(90) {
+            self.legal(values, bounds)
+        } else {
+            values
         }
     }
 

@@ -23,7 +23,7 @@ pub fn cross(a: &Vector, b: &Vector) -> Vector {
 
 /// For each corner the normal of the edge that ends there.
 pub fn normals(corners: &[Point]) -> Vec<Vector> {
-    let starts = corners[corners.len() - 1..].iter().chain(corners);
+    let starts = corners.last().into_iter().chain(corners);
     starts
         .zip(corners)
         .map(|(start, end)| {

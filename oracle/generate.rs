@@ -1,18 +1,30 @@
 //! generate SEED COUNT: writes COUNT requests to standard output, the same ones for the same seed.
 //!
-//! Of a hundred requests 25 are roots, 15 new zones, 35 questions to the zone kept and 25 bounding
-//! cones (`CALL_SHARES`). Of a hundred requests of each of these (`CLASS_SHARES`)
+//! Of a hundred requests that are drawn (`CALL_SHARES`)
+//!
+//! - 10 are builds and 2 region values; after every second one the region is asked for besides
+//!   (`REGION_SHARE`);
+//! - 16 ask whether a point is contained;
+//! - 19 are arcs: 7 first, 8 all, 4 is intersecting;
+//! - 8 are great circles;
+//! - 20 are parallels: 8 first, 8 all, 4 is intersecting;
+//! - 7 are roots, 4 new zones, 8 questions to the zone kept and 6 bounding cones.
+//!
+//! Each question is asked once at the start, before there is a region or a zone. From then on it
+//! is aimed at the region that the builds and values so far have left.
+//!
+//! Of a hundred requests of each kind (`CLASS_SHARES`)
 //!
 //! - 50 are good: ordinary values inside the domain;
-//! - 30 are borderline: on a bound, a few units in the last place beside it, or where an operation
-//!   loses its digits, so that some are refused and some are not;
+//! - 30 are borderline: on a bound, a few units in the last place beside it, where a case ends or
+//!   where an operation loses its digits, so that some are refused and some are not;
 //! - 10 are damaged: good ones in which one value, or a few, are NaN, infinite or out of bounds;
-//! - 10 are raw: random bit patterns; for zones and cones in every second request held to small
-//!   exponents, as few others come past the tests of the domain.
+//! - 10 are raw: random bit patterns; but for roots, every second time held to small exponents, as
+//!   few others come past the tests of the domain.
 //!
-//! Of a thousand bounding cones 20 have no point, 80 have 1, 170 have 2, 520 have 3 to 8, 100 have
-//! 9 to 62, 30 have 63, 40 have 64, 30 have 65 and 10 have 66 to 80 (`COUNT_SHARES`); besides, one
-//! in `LONG_CONE_ONE_IN` has up to 4,096.
+//! Region values have shares of their own (`VALUE_CLASS_SHARES`). How many points there are is
+//! drawn by `CONE_SHARES`, `CORNER_SHARES` and `VALUE_SHARES`; besides, one cone or build in
+//! `LONG_ONE_IN` has up to 4,096.
 
 mod draw;
 mod edges;
@@ -430,7 +442,7 @@ fn generate(seed: u64, count: u64) -> io::Result<()> {
     // Until a zone and a region are kept the questions draw on ones that no program was told.
     let mut zone_kept = [1.0, -0.5, 2.0, 0.5];
     let mut region = Kept::built(&points(&mut draw, Class::Good, 4));
-    let mut due = FIRST_CALLS.iter().rev().copied().collect::<Vec<Call>>();
+    let mut due: Vec<Call> = FIRST_CALLS.into_iter().rev().collect();
     for _ in 0..count {
         let call = match due.pop() {
             Some(call) => call,

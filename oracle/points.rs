@@ -98,16 +98,15 @@ pub fn points(draw: &mut Draw, class: Class, count: u64) -> Vec<Point> {
 
 /// Puts values outside the domain into one point, or into a few.
 pub fn damage(draw: &mut Draw, points: &mut [Point]) {
-    let count = points.len() as u64;
     let bad = if draw.percent(70) {
         1
     } else {
         draw.whole(2, 5)
     };
-    for _ in 0..bad.min(count) {
-        let field = draw.below(POINT_WORDS as u64) as usize;
+    for _ in 0..bad.min(points.len() as u64) {
+        let field = draw.index(POINT_WORDS);
         let value = draw.bad(POINT_BOUNDS[field]);
-        points[draw.below(count) as usize][field] = value;
+        points[draw.index(points.len())][field] = value;
     }
 }
 
@@ -219,10 +218,10 @@ pub fn borderline_points(draw: &mut Draw, count: u64) -> Vec<Point> {
         4 => {
             points = good_points(draw, count);
             for _ in 0..draw.whole(1, 4).min(count) {
-                let field = draw.below(POINT_WORDS as u64) as usize;
+                let field = draw.index(POINT_WORDS);
                 let (least, greatest) = POINT_BOUNDS[field];
                 let edge = draw.near_one_of(&[least, greatest]);
-                points[draw.below(count) as usize][field] = edge;
+                points[draw.index(count as usize)][field] = edge;
             }
         }
         // Every field a bound, a zero of either sign or one, and never beyond the bounds.
@@ -261,7 +260,7 @@ pub fn borderline_points(draw: &mut Draw, count: u64) -> Vec<Point> {
         }
         // Along an axis, with next to nothing beside it.
         _ => {
-            let axis = draw.below(3) as usize;
+            let axis = draw.index(3);
             for _ in 0..count {
                 let mut point = somewhere(draw);
                 for (place, field) in point[..3].iter_mut().enumerate() {

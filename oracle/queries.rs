@@ -3,7 +3,9 @@
 
 use std::f64::consts::PI;
 
-use stream::{HALF_PI, PARALLEL_BOUNDS, POINT_BOUNDS, TWO_PI, VECTOR_BOUNDS};
+use stream::{
+    HALF_PI, PARALLEL_BOUNDS, POINT_BOUNDS, POINT_WORDS, TWO_PI, VECTOR_BOUNDS, VECTOR_WORDS,
+};
 
 use crate::draw::{Class, Draw, SMALLEST};
 use crate::edges::{cross, vector, Point, Vector};
@@ -12,9 +14,6 @@ use crate::points::{
     with_vector,
 };
 use crate::regions::{exact, Kept};
-
-/// Of a hundred borderline requests how many are brought back into the domain.
-const LEGAL_SHARE: u64 = 90;
 
 /// A vector of some length in any direction.
 fn offset(draw: &mut Draw) -> Vector {
@@ -33,11 +32,7 @@ pub fn point(draw: &mut Draw, class: Class, kept: &Kept) -> Point {
         Class::Good => good_point(draw, kept),
         Class::Borderline => {
             let point = borderline_point(draw, kept);
-            if draw.percent(LEGAL_SHARE) {
-                draw.legal(point, &POINT_BOUNDS)
-            } else {
-                point
-            }
+            draw.mostly_legal(point, &POINT_BOUNDS)
         }
         Class::Damaged => {
             let mut point = good_point(draw, kept);
@@ -77,7 +72,7 @@ fn borderline_point(draw: &mut Draw, kept: &Kept) -> Point {
         }
         4 => {
             let mut point = corner;
-            let field = draw.below(5) as usize;
+            let field = draw.index(POINT_WORDS);
             point[field] = draw.near(point[field]);
             point
         }
@@ -87,7 +82,7 @@ fn borderline_point(draw: &mut Draw, kept: &Kept) -> Point {
             let lon = edge.lon(draw);
             point[3] = draw.pick(&[lon, lon, edge.start[3], edge.end[3]]);
             if draw.percent(40) {
-                let field = draw.below(3) as usize;
+                let field = draw.index(VECTOR_WORDS);
                 point[field] = draw.near(point[field]);
             }
             point
@@ -109,7 +104,7 @@ fn borderline_point(draw: &mut Draw, kept: &Kept) -> Point {
         }
         _ => {
             let mut point = good_point(draw, kept);
-            let field = draw.below(5) as usize;
+            let field = draw.index(POINT_WORDS);
             let (least, greatest) = POINT_BOUNDS[field];
             point[field] = draw.near_one_of(&[least, greatest, 0.0, -0.0]);
             point
@@ -127,11 +122,7 @@ pub fn arc(draw: &mut Draw, class: Class, kept: &Kept) -> [Point; 2] {
             if draw.percent(50) {
                 arc.swap(0, 1);
             }
-            if draw.percent(LEGAL_SHARE) {
-                arc.map(|point| draw.legal(point, &POINT_BOUNDS))
-            } else {
-                arc
-            }
+            arc.map(|point| draw.mostly_legal(point, &POINT_BOUNDS))
         }
         Class::Damaged => {
             let mut arc = good_arc(draw, kept);
@@ -229,15 +220,11 @@ pub fn great_circle(draw: &mut Draw, class: Class, kept: &Kept) -> Vector {
         Class::Good => good_circle(draw, kept),
         Class::Borderline => {
             let normal = borderline_circle(draw, kept);
-            if draw.percent(LEGAL_SHARE) {
-                draw.legal(normal, &VECTOR_BOUNDS)
-            } else {
-                normal
-            }
+            draw.mostly_legal(normal, &VECTOR_BOUNDS)
         }
         Class::Damaged => {
             let mut normal = good_circle(draw, kept);
-            let place = draw.below(3) as usize;
+            let place = draw.index(VECTOR_WORDS);
             normal[place] = draw.bad(VECTOR_BOUNDS[place]);
             normal
         }
@@ -264,7 +251,7 @@ fn borderline_circle(draw: &mut Draw, kept: &Kept) -> Vector {
             let factor = draw.pick(&[1.0, -1.0, 0.5, 0.1]);
             let mut normal = edge.normal.map(|component| component * factor);
             if draw.percent(40) {
-                let place = draw.below(3) as usize;
+                let place = draw.index(VECTOR_WORDS);
                 normal[place] = draw.near(normal[place]);
             }
             normal
@@ -278,12 +265,12 @@ fn borderline_circle(draw: &mut Draw, kept: &Kept) -> Vector {
         6 | 7 => shrunk(&good_circle(draw, kept), draw.whole(200, 1074)),
         8 => {
             let mut normal = good_circle(draw, kept);
-            normal[draw.below(3) as usize] = draw.either_sign(0.0);
+            normal[draw.index(VECTOR_WORDS)] = draw.either_sign(0.0);
             normal
         }
         _ => {
             let mut normal = good_circle(draw, kept);
-            normal[draw.below(3) as usize] = draw.near_one_of(&[2.0, -2.0, 0.0, -0.0]);
+            normal[draw.index(VECTOR_WORDS)] = draw.near_one_of(&[2.0, -2.0, 0.0, -0.0]);
             normal
         }
     }
@@ -299,15 +286,11 @@ pub fn parallel(draw: &mut Draw, class: Class, kept: &Kept) -> Parallel {
         Class::Good => good_parallel(draw, kept),
         Class::Borderline => {
             let parallel = borderline_parallel(draw, kept);
-            if draw.percent(LEGAL_SHARE) {
-                draw.legal(parallel, &PARALLEL_BOUNDS)
-            } else {
-                parallel
-            }
+            draw.mostly_legal(parallel, &PARALLEL_BOUNDS)
         }
         Class::Damaged => {
             let mut parallel = good_parallel(draw, kept);
-            let place = draw.below(3) as usize;
+            let place = draw.index(parallel.len());
             parallel[place] = draw.bad(PARALLEL_BOUNDS[place]);
             parallel
         }
@@ -380,7 +363,7 @@ fn borderline_parallel(draw: &mut Draw, kept: &Kept) -> Parallel {
         }
         _ => {
             let mut parallel = at_latitude(lat);
-            let place = draw.below(3) as usize;
+            let place = draw.index(parallel.len());
             let (least, greatest) = PARALLEL_BOUNDS[place];
             let edges = [least, greatest, SMALLEST, 1e-160, 1e-80];
             parallel[place] = draw.near_one_of(&edges);

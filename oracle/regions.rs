@@ -3,7 +3,8 @@
 use std::f64::consts::PI;
 
 use stream::{
-    within, Interval, CONTROL_POINT_IN, HALF_PI, MOST_POINTS, POINT_BOUNDS, TWO_PI, VECTOR_WORDS,
+    within, Interval, CONTROL_POINT_IN, HALF_PI, MOST_POINTS, POINT_BOUNDS, POINT_WORDS, TWO_PI,
+    VECTOR_WORDS,
 };
 
 use crate::draw::{Class, Draw, LARGEST_SUBNORMAL, SMALLEST, SPECIAL};
@@ -78,20 +79,11 @@ impl Kept {
         }
     }
 
-    /// A value that every call refuses is aimed at all the same.
-    fn handed_in(value: &Value) -> Self {
-        let count = value.count.clamp(1, MOST_POINTS) as usize;
-        Kept {
-            corners: value.corners[..count].to_vec(),
-            normals: value.normals[..count].to_vec(),
-        }
-    }
-
     pub fn corner(&self, draw: &mut Draw) -> Point {
         draw.pick(&self.corners)
     }
 
-    /// Any edge, or for every fourth one across the seam, if there is one.
+    /// Any edge; in a quarter of the cases one across the seam, if there is one.
     pub fn edge(&self, draw: &mut Draw) -> Edge {
         let count = self.corners.len();
         let edge = |index| Edge {
@@ -99,7 +91,7 @@ impl Kept {
             end: self.corners[index],
             normal: self.normals[index],
         };
-        let index = draw.below(count as u64) as usize;
+        let index = draw.index(count);
         if draw.percent(25) {
             let across = |edge: &Edge| (edge.end[3] - edge.start[3]).abs() > PI;
             if let Some(found) = (index..count).chain(0..index).map(edge).find(across) {
@@ -305,7 +297,7 @@ pub fn exact(draw: &mut Draw) -> Point {
         [0.5, 0.5, 0.5],
         [0.25, 0.5, 0.5],
     ]);
-    v.rotate_left(draw.below(3) as usize);
+    v.rotate_left(draw.index(VECTOR_WORDS));
     if draw.percent(50) {
         v.swap(0, 1);
     }
@@ -337,10 +329,8 @@ fn borderline_outline(draw: &mut Draw, count: u64) -> Vec<Point> {
             bend(draw, &mut corners);
         }
     }
-    if draw.percent(90) {
-        for corner in &mut corners {
-            *corner = draw.legal(*corner, &POINT_BOUNDS);
-        }
+    for corner in &mut corners {
+        *corner = draw.mostly_legal(*corner, &POINT_BOUNDS);
     }
     corners
 }
@@ -360,8 +350,8 @@ fn balanced_belt(draw: &mut Draw, count: u64) -> Vec<Point> {
         let rest: f64 = others.iter().rev().map(|corner| corner[2]).sum();
         last[2] = draw.near(-rest);
     }
-    let first = draw.below(count.max(1)) as usize;
-    corners.rotate_left(first);
+    // Which corner is the first.
+    corners.rotate_left(draw.below(count.max(1)) as usize);
     corners
 }
 
@@ -373,7 +363,7 @@ fn half_turn_belt(draw: &mut Draw, count: u64) -> Vec<Point> {
     };
     let east = draw.near(west + PI).min(TWO_PI);
     let side = if draw.percent(70) { -1.0 } else { 1.0 };
-    let step = (TWO_PI - PI) / count as f64;
+    let step = PI / count as f64;
     (0..count)
         .map(|index| {
             let lon = match index {
@@ -398,7 +388,7 @@ fn flat_belt(draw: &mut Draw, count: u64) -> Vec<Point> {
 /// Moves one corner to where an edge or a case ends.
 fn bend(draw: &mut Draw, corners: &mut [Point]) {
     let count = corners.len();
-    let at = draw.below(count as u64) as usize;
+    let at = draw.index(count);
     let before = corners[(at + count - 1) % count];
     let other = draw.pick(corners);
     let corner = &mut corners[at];
@@ -434,7 +424,6 @@ fn bend(draw: &mut Draw, corners: &mut [Point]) {
         // The normal is zero, and the latitudes differ.
         8 => {
             *corner = before;
-            corner[2] = draw.pick(&[before[2], 0.0]);
             corner[4] = draw.between(-HALF_PI, HALF_PI);
         }
         9 => *corner = opposite(&before),
@@ -444,7 +433,7 @@ fn bend(draw: &mut Draw, corners: &mut [Point]) {
             *corner = with_vector(corner, &vector(corner).map(|c| c * factor));
         }
         _ => {
-            let field = draw.below(POINT_BOUNDS.len() as u64) as usize;
+            let field = draw.index(POINT_WORDS);
             let (least, greatest) = POINT_BOUNDS[field];
             corner[field] = draw.near_one_of(&[least, greatest]);
         }
@@ -461,8 +450,13 @@ pub struct Value {
 }
 
 impl Value {
+    /// A value that every call refuses is aimed at all the same.
     pub fn kept(&self) -> Kept {
-        Kept::handed_in(self)
+        let count = self.count.clamp(1, MOST_POINTS) as usize;
+        Kept {
+            corners: self.corners[..count].to_vec(),
+            normals: self.normals[..count].to_vec(),
+        }
     }
 }
 
@@ -480,17 +474,17 @@ pub fn region_value(draw: &mut Draw) -> Value {
         Class::Good => {}
         Class::Borderline => {
             for _ in 0..draw.whole(1, 4) {
-                let at = draw.below(used) as usize;
+                let at = draw.index(normals.len());
                 twist(draw, &mut normals, at);
             }
         }
         Class::Damaged => {
             for _ in 0..draw.whole(1, 6) {
-                let at = draw.below(used) as usize;
+                let at = draw.index(normals.len());
                 let value = wild(draw);
-                match draw.below(8) {
-                    field @ 0..=4 => corners[at][field as usize] = value,
-                    field => normals[at][field as usize - 5] = value,
+                match draw.index(POINT_WORDS + VECTOR_WORDS) {
+                    field @ 0..POINT_WORDS => corners[at][field] = value,
+                    field => normals[at][field - POINT_WORDS] = value,
                 }
             }
         }
@@ -517,7 +511,7 @@ fn twist(draw: &mut Draw, normals: &mut [Vector], at: usize) {
     let normal = &mut normals[at];
     match draw.below(6) {
         0 => *normal = normal.map(|component| -component),
-        1 => normal[draw.below(3) as usize] = draw.either_sign(0.0),
+        1 => normal[draw.index(VECTOR_WORDS)] = draw.either_sign(0.0),
         2 => *normal = other,
         3 => *normal = vector(&exact(draw)),
         4 => {
@@ -525,7 +519,7 @@ fn twist(draw: &mut Draw, normals: &mut [Vector], at: usize) {
             *normal = normal.map(|component| component * factor);
         }
         _ => {
-            let place = draw.below(3) as usize;
+            let place = draw.index(VECTOR_WORDS);
             normal[place] = draw.near(normal[place]);
         }
     }

@@ -1,7 +1,7 @@
 -- Laws of `withCount`, for every call that tests a count.
 use Prim.Native.Nat.{ℕ, _≤_, _<_}
 use native.Mathlib.Omega.{arith}
-use mathlib.Core.Path.{_≡_, refl}
+use mathlib.Core.Path.{_≡_, refl, sym, _∙_}
 use mathlib.Core.Bool.{Bool, true, false}
 use mathlib.Core.List.{[]}
 use lib.Dec.{eqb, ltb}
@@ -30,3 +30,11 @@ module _ {A : Type 0} (n : ℕ) (next : Answer A) where
       go true c p q e = never e
       go false true p q e = never e
       go false false p q e = (pos-of-ne n (eqb-false n 0 p), ltb-false 64 n q)
+
+  pub count-passed : (a : A) → withCount n next ≡ answered a → next ≡ answered a
+  count-passed a e =
+      let r = count-answered a e in
+      sym (count-few (λ (z : n ≡ 0). none z (r .0)) (r .1)) ∙ e
+    where
+      none : n ≡ 0 → 0 < n → ⊥
+      none z p = omega arith

@@ -7,21 +7,26 @@ use mathlib.Core.Bool.{Bool, true, false, not}
 use mathlib.Core.List.{List, [], _∷_, _++_, append-nil}
 use lib.ListN.{length, take, drop, getD, set}
 use Rattle.coo3d.specs.declared.Coo3D.{Coo3D}
+use Rattle.coo3d.specs.declared.Vect3.{Vect3}
 use Rattle.lists.proofs.Passing.{next-left, none-left, stored}
 use Rattle.refusal.specs.Answer.{Answer, answered, refused, refuseIf, andThen}
 use Rattle.refusal.proofs.Answers.{then-answered, then-assoc, then-same, never}
-use Rattle.domain.specs.Domain.{inDomain}
-use Rattle.domain.specs.Checks.{pointAt, pointsFrom, pointsOf}
+use Rattle.domain.specs.Domain.{inDomain, vectorInDomain}
+use Rattle.domain.specs.Checks.{pointAt, vectorAt, pointsFrom, pointsOf}
 use Rattle.domain.proofs.Counts.{count-answered}
 
--- a point that is refused is refused as 1, with its index
+-- what is refused by a test is refused as 1, with its index
+test-refused : {A : Type 0} (b : Bool) (i : ℕ) (a : A) (n : ℕ) (vs : List ℕ) → refused n vs ≡ refuseIf (not b) 1 (i ∷ []) (answered a) → refuseIf (not b) 1 (i ∷ []) (answered a) ≡ refused 1 (i ∷ [])
+test-refused true i a n vs e = never e
+test-refused false i a n vs e = refl
+
 pub point-refused : (i : ℕ) (p : Coo3D) (n : ℕ) (vs : List ℕ) → refused n vs ≡ pointAt i p → pointAt i p ≡ refused 1 (i ∷ [])
 unfolding pointAt
-point-refused i p n vs = go (inDomain p)
-  where
-    go : (b : Bool) → refused n vs ≡ refuseIf (not b) 1 (i ∷ []) (answered p) → refuseIf (not b) 1 (i ∷ []) (answered p) ≡ refused 1 (i ∷ [])
-    go true e = never e
-    go false e = refl
+point-refused i p = test-refused (inDomain p) i p
+
+pub vector-refused : (i : ℕ) (v : Vect3) (n : ℕ) (vs : List ℕ) → refused n vs ≡ vectorAt i v → vectorAt i v ≡ refused 1 (i ∷ [])
+unfolding vectorAt
+vector-refused i v = test-refused (vectorInDomain v) i v
 
 -- ---- the loop: the points from i on are still to be checked, and those before it are in `out`
 

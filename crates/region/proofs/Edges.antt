@@ -5,7 +5,7 @@ use native.Mathlib.Omega.{arith}
 use mathlib.Core.Path.{_≡_, refl, sym, ap, _∙_}
 use mathlib.Core.List.{List, [], _∷_}
 use lib.Ieee.{nan}
-use lib.ListN.{length, take, drop, getD}
+use lib.ListN.{length, take, drop, getD, length-take}
 use Rattle.coo3d.specs.declared.Coo3D.{Coo3D}
 use Rattle.coo3d.specs.declared.Vect3.{Vect3}
 use Rattle.lists.proofs.Passing.{next-left, none-left}
@@ -44,3 +44,16 @@ module _ (r : Region) where
   pub done : (from : Coo3D) (i : ℕ) → r .count ≤ length (r .vertices) → r .count ≤ i → edgesLeft r from i ≡ []
   unfolding edgesLeft edgesFrom
   done from i long passed = rw (none-left (r .vertices) (r .count) i long passed)
+
+edges-from-length : (from : Coo3D) (cs : List Coo3D) (ns : List Vect3) → length (edgesFrom from cs ns) ≤ length cs
+unfolding edgesFrom
+edges-from-length from [] ns = omega arith
+edges-from-length from (c ∷ cs) [] = omega arith
+edges-from-length from (c ∷ cs) (n ∷ ns) = omega (arith, edges-from-length c cs ns)
+
+-- there are no more edges than are counted
+pub edges-length : (r : Region) → length (edgesOf (viewOf r)) ≤ r .count
+unfolding edgesOf
+edges-length r =
+    let h = edges-from-length (lastOf nowhere (take (r .count) (r .vertices))) (take (r .count) (r .vertices)) (take (r .count) (r .«cross_products»)) in
+    omega (arith, h, length-take (r .count) (r .vertices))

@@ -1,0 +1,3 @@
+pub mod Given
+pub mod First
+pub mod All

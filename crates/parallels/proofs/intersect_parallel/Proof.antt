@@ -1,0 +1,187 @@
+-- `parallels::intersect_parallel` meets its contract. Assumes nothing.
+-- The loop's invariant: the edges that are left decide as all of them do. The measure is how many are left.
+use Prim.Native.Nat.{_-_, _≤_}
+use native.Mathlib.Omega.{arith}
+use mathlib.Core.Path.{_≡_, sym, ap, _∙_}
+use borrow.Author.Needs.{needs}
+use lib.ListN.{length}
+use Rattle.crossings.specs.declared.Crossing.{Crossing}
+use Rattle.crossings.specs.declared.Tested.the-variants as tested
+use Rattle.crossings.specs.Crossings.{testedAnswer, listed, firstOf}
+use Rattle.domain.proofs.Counts.{count-none, count-many}
+use Rattle.refusal.specs.Answer.{answered}
+use Rattle.region.specs.View.{viewOf, edgesOf}
+use Rattle.region.proofs.Edges.{edgesLeft, start}
+use Rattle.region.proofs.Lengths.{unmap}
+use Rattle.parallels.proofs.Given.{parallel-refused, parallel-passed}
+use Rattle.parallels.proofs.First.{fit-not, fit-here, fit-nowhere, first-passed, first-refused}
+use Rattle.parallels.specs.Queries.{firstFit, parallelFirstOf}
+use Rattle.parallels.proofs.intersect_parallel.Statement.{statement}
+use Rattle.parallels.proofs.intersect_parallel.Tie as tie
+
+abbrev Inv-loop : tie.InvT-loop
+Inv-loop lat lat-sin lat-cos r count last from₀ i₀ from i =
+    (i ≤ r .count) × (firstFit lat lat-sin lat-cos (edgesLeft r from i) ≡ firstFit lat lat-sin lat-cos (edgesOf (viewOf r)))
+
+abbrev μ-loop : tie.MeasureT-loop
+μ-loop lat lat-sin lat-cos r count last from₀ i₀ from i = r .count - i
+
+long : (c : tie.Start Inv-loop μ-loop) → c .args .t1 .count ≤ 64 → c .args .t1 .count ≤ length (c .args .t1 .vertices)
+long c h = let e : length (c .args .t1 .vertices) ≡ 64 = search unmap in omega arith
+
+long' : (c : tie.Start Inv-loop μ-loop) → c .args .t1 .count ≤ 64 → c .args .t1 .count ≤ length (c .args .t1 .«cross_products»)
+long' c h = let e : length (c .args .t1 .«cross_products») ≡ 64 = search unmap in omega arith
+
+returns : tie.Need-returns Inv-loop μ-loop
+unfolding parallelFirstOf
+returns c = sym (count-none _ _ (c .if1 .taken))
+
+returns-2 : tie.Need-returns-2 Inv-loop μ-loop
+unfolding parallelFirstOf
+returns-2 c = sym (count-many _ _ (c .before .if1 .left) (c .if2 .taken))
+
+is-parallel-requires : tie.Need-is-parallel-requires Inv-loop μ-loop
+is-parallel-requires c κs = search needs
+
+returns-3 : tie.Need-returns-3 Inv-loop μ-loop
+unfolding parallelFirstOf
+returns-3 c =
+    let s = c .before .before .before .before in
+    sym (parallel-refused (viewOf (s .args .t1)) _ _ _ _ (search needs) (search needs) _ (c .before .is-parallel .ensures) (c .if3 .taken))
+
+sub-last : tie.Need-sub-last Inv-loop μ-loop
+sub-last c = search needs
+
+mul-from : tie.Need-mul-from Inv-loop μ-loop
+mul-from c = search needs
+
+element-copy-out-from : tie.Need-element-copy-out-from Inv-loop μ-loop
+element-copy-out-from c = search needs
+
+-- the edges that are left decide, once the tests are passed
+answer : (c : tie.At-loop Inv-loop μ-loop)
+    → let a = c .before .before .before .before .before .before .args in
+    firstOf (firstFit (a .lat) (a .lat-sin) (a .lat-cos) (edgesLeft (a .t1) (c .loop .from) (c .loop .i))) ≡ parallelFirstOf (viewOf (a .t1)) (a .lat) (a .lat-sin) (a .lat-cos)
+unfolding parallelFirstOf
+answer c =
+    let s = c .before .before .before .before .before .before in
+    ap firstOf (c .loop .inv .1)
+    ∙ sym (parallel-passed (viewOf (s .args .t1)) _ _ _ _ (search needs) (search needs) _ (c .before .before .before .is-parallel .ensures) (c .before .before .if3 .left))
+
+loop-holds : tie.Need-loop-holds Inv-loop μ-loop
+loop-holds c =
+    let s = c .before .before .before .before .before in
+    (search needs, ap (firstFit _ _ _) (sym (start (s .args .t1) (search needs) (long s (search needs)))))
+
+mul-to : tie.Need-mul-to Inv-loop μ-loop
+mul-to c = search needs
+
+element-copy-out-to : tie.Need-element-copy-out-to Inv-loop μ-loop
+element-copy-out-to c = search needs
+
+spans-lat-requires : tie.Need-spans-lat-requires Inv-loop μ-loop
+spans-lat-requires c κs = search needs
+
+mul-n : tie.Need-mul-n Inv-loop μ-loop
+mul-n c = search needs
+
+element-copy-out-n : tie.Need-element-copy-out-n Inv-loop μ-loop
+element-copy-out-n c = search needs
+
+point-of-requires : tie.Need-point-of-requires Inv-loop μ-loop
+point-of-requires c κs = search needs
+
+test-finite-requires : tie.Need-test-finite-requires Inv-loop μ-loop
+test-finite-requires c κs = search needs
+
+enum-known-c : tie.Need-enum-known-c Inv-loop μ-loop
+enum-known-c c = search needs
+
+enum-told : tie.Need-enum-told Inv-loop μ-loop
+enum-told c = search needs
+
+-- the edge fits, so that its crossing is the answer
+fit : (c : tie.After-point-of Inv-loop μ-loop)
+    → let a = c .before .before .before .before .before .before .before .before .before .before .before .before .args in
+    firstOf (listed (c .point-of .result)) ≡ parallelFirstOf (viewOf (a .t1)) (a .lat) (a .lat-sin) (a .lat-cos)
+fit c =
+    let s = c .before .before .before .before .before .before .before .before .before .before .before .before in
+    let l = c .before .before .before .before .before .before .loop in
+    let spans = sym (c .before .before .before .spans-lat .ensures) ∙ c .before .before .if4 .taken in
+    ap firstOf (fit-here (s .args .t1) (s .args .lat) (s .args .lat-sin) (s .args .lat-cos) (l .from) (l .i) (long s (search needs)) (long' s (search needs)) (search needs) (c .point-of .result) spans (c .point-of .ensures))
+    ∙ answer (c .before .before .before .before .before .before)
+
+returns-4 : tie.Need-returns-4 Inv-loop μ-loop
+returns-4 c =
+    let p = c .before .before .before in
+    first-refused (p .point-of .result) _ _ (ap testedAnswer (sym (c .enum-told .given .1)) ∙ c .before .before .test-finite .ensures) ∙ fit p
+
+enum-known-c-2 : tie.Need-enum-known-c-2 Inv-loop μ-loop
+enum-known-c-2 c = search needs
+
+enum-told-2 : tie.Need-enum-told-2 Inv-loop μ-loop
+enum-told-2 c = search needs
+
+-- a crossing that is passed on is the answer
+met : (c : tie.After-test-finite Inv-loop μ-loop) (d : Crossing)
+    → let a = c .before .before .before .before .before .before .before .before .before .before .before .before .before .args in
+    c .test-finite .result ≡ tested.Crossing d → answered (listed d) ≡ parallelFirstOf (viewOf (a .t1)) (a .lat) (a .lat-sin) (a .lat-cos)
+met c d e = first-passed (c .before .point-of .result) d (ap testedAnswer (sym e) ∙ c .test-finite .ensures) ∙ fit (c .before)
+
+returns-5 : tie.Need-returns-5 Inv-loop μ-loop
+returns-5 c = ap (λ (d : Crossing). answered (listed d)) (sym (c .enum-told2 .given .1)) ∙ met (c .before .before .before .before .before) _ (c .before .before .before .c .given .1)
+
+returns-6 : tie.Need-returns-6 Inv-loop μ-loop
+returns-6 c = ap (λ (d : Crossing). answered (listed d)) (sym (c .before .c2 .given .1)) ∙ met (c .before .before .before .before .before .before) _ (c .before .before .before .before .c .given .1)
+
+add-i : tie.Need-add-i Inv-loop μ-loop
+add-i c = search needs
+
+loop-less : tie.Need-loop-less Inv-loop μ-loop
+loop-less c = search needs
+
+loop-again : tie.Need-loop-again Inv-loop μ-loop
+loop-again c =
+    let s = c .before .before .before .before .before .before .before .before .before .before in
+    let l = c .before .before .before .before .loop in
+    (search needs, sym (fit-not (s .args .t1) _ _ _ (l .from) (l .i) (long s (search needs)) (long' s (search needs)) (search needs) (sym (c .before .spans-lat .ensures) ∙ c .if4 .left)) ∙ l .inv .1)
+
+returns-7 : tie.Need-returns-7 Inv-loop μ-loop
+unfolding firstOf
+returns-7 c =
+    let s = c .before .before .before .before .before .before .before in
+    let l = c .before .loop in
+    ap firstOf (sym (fit-nowhere (s .args .t1) (s .args .lat) (s .args .lat-sin) (s .args .lat-cos) (l .from) (l .i) (long s (search needs)) (c .loop-test .left))) ∙ answer (c .before)
+
+pub intersect-parallel-spec : {M : Type 1} → statement M
+intersect-parallel-spec =
+    tie.close
+    (tie.spec
+    Inv-loop
+    μ-loop
+    returns
+    returns-2
+    is-parallel-requires
+    returns-3
+    sub-last
+    mul-from
+    element-copy-out-from
+    loop-holds
+    mul-to
+    element-copy-out-to
+    spans-lat-requires
+    mul-n
+    element-copy-out-n
+    point-of-requires
+    test-finite-requires
+    enum-known-c
+    enum-told
+    returns-4
+    enum-known-c-2
+    enum-told-2
+    returns-5
+    returns-6
+    add-i
+    loop-less
+    loop-again
+    returns-7)
