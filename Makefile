@@ -8,7 +8,7 @@ COUNT ?= 200000
 .PHONY: help setup demo test differential fixed-list
 
 help:
-	@echo 'make demo          runs the example: fixes against a zone, and a bounding cone'
+	@echo 'make demo          runs the example: fixes against a region and a zone, crossings, refusals'
 	@echo 'make test          the whole gate: proofs, must-fail edits, fixed list, comparison with upstream'
 	@echo 'make differential  SEED=n COUNT=n: compares that many requests with upstream'
 	@echo 'make fixed-list    makes the fixed list of crates/replay anew from upstream'
@@ -19,6 +19,7 @@ setup:
 	@tests/need rustc rustc
 
 demo:
+	@mkdir -p build
 	@rt check demo >build/demo.log 2>&1 || { cat build/demo.log; exit 1; }
 	@target/bin/demo
 

@@ -9,10 +9,10 @@ use Rattle.crossings.specs.declared.Crossing.the-variants.{None, At}
 use Rattle.crossings.specs.declared.Tested.{Tested}
 use Rattle.crossings.specs.declared.Tested.the-variants as variants
 use Rattle.crossings.specs.Crossings.{testedAnswer, testedOf}
+use Rattle.crossings.proofs.First.{tested-refused}
 use Rattle.crossings.proofs.Fill.{fill, fill-none, fill-at, fill-refused}
 use Rattle.refusal.specs.declared.Cause.{Cause}
 use Rattle.refusal.specs.Answer.{refused}
-use Rattle.parallels.proofs.First.{tested-refused}
 
 -- a turn: the next edge of those that are left, its crossing, and what the test of that told
 pub record Turn {E : Type 0} (hit : E → Crossing) (left rest : List E) (t : Tested) : Type 0 where

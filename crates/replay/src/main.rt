@@ -2,8 +2,18 @@
 // library's public functions, encodes.
 use cone::Cone;
 use cone::ConeAnswer;
+use coo3d::Coo3D;
 use coo3d::LonLat;
+use coo3d::UnitVect3;
+use coo3d::Vect3;
+use crossings::AllAnswer;
+use crossings::FirstAnswer;
 use refusal::Cause;
+use refusal::Decision;
+use refusal::Outcome;
+use region::Built;
+use region::ContainsSouthPoleMethod;
+use region::Region;
 use stream::Stream;
 use zone::Zone;
 use zone::ZoneAnswer;
@@ -12,6 +22,7 @@ mod stream;
 
 // What is kept from one request to the next.
 struct State {
+    region: Region,
     zone: Zone,
     has_zone: bool,
     stream: Stream,
@@ -19,7 +30,25 @@ struct State {
 
 fn new() -> State {
     let stream = stream::new();
+    let origin = Coo3D {
+        x: 0.0,
+        y: 0.0,
+        z: 0.0,
+        lon: 0.0,
+        lat: 0.0,
+    };
+    let zero = Vect3 {
+        x: 0.0,
+        y: 0.0,
+        z: 0.0,
+    };
     State {
+        region: Region {
+            vertices: [origin; 64],
+            cross_products: [zero; 64],
+            count: 0,
+            contains_south_pole: false,
+        },
         zone: Zone {
             lon_min: 0.0,
             lat_min: 0.0,
@@ -33,12 +62,16 @@ fn new() -> State {
 }
 
 fn with_stream(s: State, stream: Stream) -> State {
-    let zone = s.zone;
-    State {
-        zone,
-        has_zone: s.has_zone,
-        stream,
-    }
+    let mut t = s;
+    t.stream = stream;
+    t
+}
+
+fn with_region(s: State, region: Region, stream: Stream) -> State {
+    let mut t = s;
+    t.region = region;
+    t.stream = stream;
+    t
 }
 
 fn put_refusal(s: Stream, out: &mut [u8; 65536], cause: Cause) -> Stream {
@@ -48,6 +81,293 @@ fn put_refusal(s: Stream, out: &mut [u8; 65536], cause: Cause) -> Stream {
         Cause::ShortOutput(needed) => stream::put(t, out, needed as u64),
         _ => t,
     }
+}
+
+fn put_decision(s: Stream, out: &mut [u8; 65536], d: Decision) -> Stream {
+    match d {
+        Decision::Yes => {
+            let t = stream::put(s, out, 0);
+            stream::put(t, out, 1)
+        }
+        Decision::No => {
+            let t = stream::put(s, out, 0);
+            stream::put(t, out, 0)
+        }
+        Decision::Refused(cause) => put_refusal(s, out, cause),
+    }
+}
+
+fn put_unit(s: Stream, out: &mut [u8; 65536], p: UnitVect3) -> Stream {
+    stream::put_triple(s, out, p.x, p.y, p.z)
+}
+
+fn put_first(s: Stream, out: &mut [u8; 65536], a: FirstAnswer) -> Stream {
+    match a {
+        FirstAnswer::At(p) => {
+            let t = stream::put(s, out, 0);
+            let u = stream::put(t, out, 1);
+            put_unit(u, out, p)
+        }
+        FirstAnswer::None => {
+            let t = stream::put(s, out, 0);
+            stream::put(t, out, 0)
+        }
+        FirstAnswer::Refused(cause) => put_refusal(s, out, cause),
+    }
+}
+
+fn put_units(s: Stream, out: &mut [u8; 65536], points: [UnitVect3; 64], len: usize) -> Stream {
+    let mut stream = s;
+    let mut i: usize = 0;
+    while i < len {
+        if i >= 64 {
+            return stream;
+        }
+        let p = points[i];
+        stream = put_unit(stream, out, p);
+        i += 1;
+    }
+    stream
+}
+
+fn put_all(s: Stream, out: &mut [u8; 65536], a: AllAnswer) -> Stream {
+    let outcome = a.outcome;
+    match outcome {
+        Outcome::Refused(cause) => put_refusal(s, out, cause),
+        Outcome::Done => {
+            let crossings = a.crossings;
+            let points = crossings.points;
+            let len = crossings.len;
+            let t = stream::put(s, out, 0);
+            let u = stream::put(t, out, len as u64);
+            put_units(u, out, points, len)
+        }
+    }
+}
+
+// The rules by their numbers.
+enum Rule {
+    Method(ContainsSouthPoleMethod),
+    Unknown,
+}
+
+fn rule_of(number: u64, control_point: Coo3D) -> Rule {
+    match number {
+        0 => Rule::Method(ContainsSouthPoleMethod::Default),
+        1 => Rule::Method(ContainsSouthPoleMethod::DefaultComplement),
+        2 => Rule::Method(ContainsSouthPoleMethod::ContainsSouthPole),
+        3 => Rule::Method(ContainsSouthPoleMethod::DoNotContainsSouthPole),
+        4 => Rule::Method(ContainsSouthPoleMethod::ControlPointIn(control_point)),
+        5 => Rule::Method(ContainsSouthPoleMethod::ControlPointOut(control_point)),
+        _ => Rule::Unknown,
+    }
+}
+
+fn put_built(s: State, t: Stream, out: &mut [u8; 65536], built: Built) -> State {
+    let outcome = built.outcome;
+    match outcome {
+        Outcome::Refused(cause) => with_stream(s, put_refusal(t, out, cause)),
+        Outcome::Done => {
+            let region = built.region;
+            with_region(s, region, stream::put(t, out, 0))
+        }
+    }
+}
+
+// 1
+fn answer_build(s: State, input: &mut [u8; 65536], out: &mut [u8; 65536]) -> State {
+    let before = s.stream;
+    let n = stream::get(before, input);
+    let count = n.value;
+    let after_n = n.stream;
+    let number = stream::get(after_n, input);
+    let after_number = number.stream;
+    let control = stream::get_point(after_number, input);
+    let after_control = control.stream;
+    if count > 4096 {
+        return with_stream(s, stream::end(after_control));
+    }
+    let control_point = control.value;
+    let Rule::Method(method) = rule_of(number.value, control_point) else {
+        return with_stream(s, stream::end(after_control));
+    };
+    let points = stream::get_points(after_control, input, count);
+    let t = points.stream;
+    if t.ended {
+        return with_stream(s, t);
+    }
+    let values = points.values;
+    put_built(s, t, out, region::build(values, count as usize, method))
+}
+
+fn put_corners(s: Stream, out: &mut [u8; 65536], r: Region) -> Stream {
+    let count = r.count;
+    let mut stream = s;
+    let mut i: usize = 0;
+    while i < count {
+        if i >= 64 {
+            return stream;
+        }
+        let p = r.vertices[i];
+        stream = stream::put_point(stream, out, p);
+        i += 1;
+    }
+    stream
+}
+
+fn put_normals(s: Stream, out: &mut [u8; 65536], r: Region) -> Stream {
+    let count = r.count;
+    let mut stream = s;
+    let mut i: usize = 0;
+    while i < count {
+        if i >= 64 {
+            return stream;
+        }
+        let n = r.cross_products[i];
+        stream = stream::put_triple(stream, out, n.x, n.y, n.z);
+        i += 1;
+    }
+    stream
+}
+
+// 9
+fn answer_region(s: Stream, out: &mut [u8; 65536], r: Region) -> Stream {
+    let count = r.count;
+    if count == 0 {
+        return put_refusal(s, out, Cause::NoPoint);
+    }
+    if count > 64 {
+        return put_refusal(s, out, Cause::TooManyPoints);
+    }
+    let t = stream::put(s, out, 0);
+    let u = stream::put(t, out, count as u64);
+    let v = stream::put_bool(u, out, r.contains_south_pole);
+    let w = put_corners(v, out, r);
+    put_normals(w, out, r)
+}
+
+// 10
+fn answer_contains(s: Stream, input: &mut [u8; 65536], out: &mut [u8; 65536], r: Region) -> Stream {
+    let p = stream::get_point(s, input);
+    let t = p.stream;
+    if t.ended {
+        return t;
+    }
+    let coo = p.value;
+    put_decision(t, out, region::contains(r, coo))
+}
+
+// 11, 12, 13
+fn answer_arc(
+    s: Stream,
+    input: &mut [u8; 65536],
+    out: &mut [u8; 65536],
+    r: Region,
+    number: u64,
+) -> Stream {
+    let first = stream::get_point(s, input);
+    let after_first = first.stream;
+    let second = stream::get_point(after_first, input);
+    let t = second.stream;
+    if t.ended {
+        return t;
+    }
+    let a = first.value;
+    let b = second.value;
+    if number == 11 {
+        return put_first(t, out, great_circles::intersect_great_circle_arc(r, a, b));
+    }
+    if number == 12 {
+        return put_all(
+            t,
+            out,
+            great_circles::intersect_great_circle_arc_all(r, a, b),
+        );
+    }
+    put_decision(
+        t,
+        out,
+        great_circles::is_intersecting_great_circle_arc(r, a, b),
+    )
+}
+
+// 14
+fn answer_great_circle(
+    s: Stream,
+    input: &mut [u8; 65536],
+    out: &mut [u8; 65536],
+    r: Region,
+) -> Stream {
+    let v = stream::get_triple(s, input);
+    let t = v.stream;
+    if t.ended {
+        return t;
+    }
+    let n = Vect3 {
+        x: v.first,
+        y: v.second,
+        z: v.third,
+    };
+    put_all(t, out, great_circles::intersect_great_circle_all(r, n))
+}
+
+// 15, 16, 17
+fn answer_parallel(
+    s: Stream,
+    input: &mut [u8; 65536],
+    out: &mut [u8; 65536],
+    r: Region,
+    number: u64,
+) -> Stream {
+    let v = stream::get_triple(s, input);
+    let t = v.stream;
+    if t.ended {
+        return t;
+    }
+    if number == 15 {
+        return put_first(
+            t,
+            out,
+            parallels::intersect_parallel(r, v.first, v.second, v.third),
+        );
+    }
+    if number == 16 {
+        return put_all(
+            t,
+            out,
+            parallels::intersect_parallel_all(r, v.first, v.second, v.third),
+        );
+    }
+    put_decision(
+        t,
+        out,
+        parallels::is_intersecting_parallel(r, v.first, v.second, v.third),
+    )
+}
+
+// 26
+fn answer_value(s: State, input: &mut [u8; 65536], out: &mut [u8; 65536]) -> State {
+    let before = s.stream;
+    let n = stream::get(before, input);
+    let after_n = n.stream;
+    let flag = stream::get(after_n, input);
+    let after_flag = flag.stream;
+    let corners = stream::get_points(after_flag, input, 64);
+    let after_corners = corners.stream;
+    let normals = stream::get_vectors(after_corners, input);
+    let t = normals.stream;
+    if t.ended {
+        return with_stream(s, t);
+    }
+    let vertices = corners.values;
+    let cross_products = normals.values;
+    let region = Region {
+        vertices,
+        cross_products,
+        count: n.value as usize,
+        contains_south_pole: flag.value != 0,
+    };
+    with_region(s, region, stream::put(t, out, 0))
 }
 
 // 22
@@ -70,12 +390,10 @@ fn answer_zone_new(s: State, input: &mut [u8; 65536], out: &mut [u8; 65536]) -> 
     }
     match Zone::new(bounds.first, bounds.second, bounds.third, bounds.fourth) {
         ZoneAnswer::Made(zone) => {
-            let stream = stream::put(t, out, 0);
-            State {
-                zone,
-                has_zone: true,
-                stream,
-            }
+            let mut next = with_stream(s, stream::put(t, out, 0));
+            next.zone = zone;
+            next.has_zone = true;
+            next
         }
         ZoneAnswer::Refused(cause) => {
             let stream = put_refusal(t, out, cause);
@@ -160,10 +478,31 @@ fn answer_bounding_cone(s: Stream, input: &mut [u8; 65536], out: &mut [u8; 65536
     }
 }
 
+// The answer to a request about the region.
+fn answer_about_region(
+    s: Stream,
+    number: u64,
+    input: &mut [u8; 65536],
+    out: &mut [u8; 65536],
+    r: Region,
+) -> Stream {
+    match number {
+        9 => answer_region(s, out, r),
+        10 => answer_contains(s, input, out, r),
+        11 | 12 | 13 => answer_arc(s, input, out, r, number),
+        14 => answer_great_circle(s, input, out, r),
+        _ => answer_parallel(s, input, out, r, number),
+    }
+}
+
 // The answer to the request of this number, but for those that change what is kept.
 fn answer(s: State, number: u64, input: &mut [u8; 65536], out: &mut [u8; 65536]) -> Stream {
     let t = s.stream;
     match number {
+        9..=17 => {
+            let r = s.region;
+            answer_about_region(t, number, input, out, r)
+        }
         22 => answer_sqrt(t, input, out),
         24 => answer_zone(s, input, out),
         25 => answer_bounding_cone(t, input, out),
@@ -177,10 +516,17 @@ fn step(s: State, input: &mut [u8; 65536], out: &mut [u8; 65536]) -> State {
     let request = stream::get(before, input);
     let t = request.stream;
     let here = with_stream(s, t);
-    if request.value == 23 {
+    let number = request.value;
+    if number == 1 {
+        return answer_build(here, input, out);
+    }
+    if number == 23 {
         return answer_zone_new(here, input, out);
     }
-    let after = answer(here, request.value, input, out);
+    if number == 26 {
+        return answer_value(here, input, out);
+    }
+    let after = answer(here, number, input, out);
     with_stream(here, after)
 }
 

@@ -2,6 +2,7 @@
 ghost use Prim.Native.Nat.{_+_, _≤_, _<_};
 ghost use lib.ListN.{length};
 use coo3d::Coo3D;
+use coo3d::Vect3;
 use libc::STDIN_FILENO;
 use libc::STDOUT_FILENO;
 
@@ -48,6 +49,11 @@ pub struct Quad {
 
 pub struct Point {
     pub value: Coo3D,
+    pub stream: Stream,
+}
+
+pub struct Vectors {
+    pub values: [Vect3; 64],
     pub stream: Stream,
 }
 
@@ -243,6 +249,29 @@ pub(crate) fn get_points(s: Stream, input: &mut [u8; 65536], n: u64) -> Points {
     Points { values, stream }
 }
 
+// 64 vectors.
+pub(crate) fn get_vectors(s: Stream, input: &mut [u8; 65536]) -> Vectors {
+    let zero = Vect3 {
+        x: 0.0,
+        y: 0.0,
+        z: 0.0,
+    };
+    let mut values = [zero; 64];
+    let mut stream = s;
+    let mut i: usize = 0;
+    while i < 64 {
+        let t = get_triple(stream, input);
+        stream = t.stream;
+        values[i] = Vect3 {
+            x: t.first,
+            y: t.second,
+            z: t.third,
+        };
+        i += 1;
+    }
+    Vectors { values, stream }
+}
+
 fn write_first(out: &[u8], len: usize) {
     if len <= out.len() {
         io::write_all(STDOUT_FILENO, &out[..len]);
@@ -302,4 +331,9 @@ pub(crate) fn put_triple(s: Stream, out: &mut [u8; 65536], x: f64, y: f64, z: f6
 
 pub(crate) fn put_bool(s: Stream, out: &mut [u8; 65536], b: bool) -> Stream {
     put(s, out, b as u64)
+}
+
+pub(crate) fn put_point(s: Stream, out: &mut [u8; 65536], p: Coo3D) -> Stream {
+    let t = put_triple(s, out, p.x, p.y, p.z);
+    put_pair(t, out, p.lon, p.lat)
 }

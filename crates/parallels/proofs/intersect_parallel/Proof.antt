@@ -14,7 +14,7 @@ use Rattle.region.specs.View.{viewOf, edgesOf}
 use Rattle.region.proofs.Edges.{edgesLeft, start}
 use Rattle.region.proofs.Lengths.{unmap}
 use Rattle.parallels.proofs.Given.{parallel-refused, parallel-passed}
-use Rattle.parallels.proofs.First.{fit-not, fit-here, fit-nowhere, first-passed, first-refused}
+use Rattle.parallels.proofs.First.{fit-not, fit-here, fit-nowhere, only-passed, only-refused}
 use Rattle.parallels.specs.Queries.{firstFit, parallelFirstOf}
 use Rattle.parallels.proofs.intersect_parallel.Statement.{statement}
 use Rattle.parallels.proofs.intersect_parallel.Tie as tie
@@ -114,7 +114,7 @@ fit c =
 returns-4 : tie.Need-returns-4 Inv-loop μ-loop
 returns-4 c =
     let p = c .before .before .before in
-    first-refused (p .point-of .result) _ _ (ap testedAnswer (sym (c .enum-told .given .1)) ∙ c .before .before .test-finite .ensures) ∙ fit p
+    only-refused (p .point-of .result) _ _ (ap testedAnswer (sym (c .enum-told .given .1)) ∙ c .before .before .test-finite .ensures) ∙ fit p
 
 enum-known-c-2 : tie.Need-enum-known-c-2 Inv-loop μ-loop
 enum-known-c-2 c = search needs
@@ -126,7 +126,7 @@ enum-told-2 c = search needs
 met : (c : tie.After-test-finite Inv-loop μ-loop) (d : Crossing)
     → let a = c .before .before .before .before .before .before .before .before .before .before .before .before .before .args in
     c .test-finite .result ≡ tested.Crossing d → answered (listed d) ≡ parallelFirstOf (viewOf (a .t1)) (a .lat) (a .lat-sin) (a .lat-cos)
-met c d e = first-passed (c .before .point-of .result) d (ap testedAnswer (sym e) ∙ c .test-finite .ensures) ∙ fit (c .before)
+met c d e = only-passed (c .before .point-of .result) d (ap testedAnswer (sym e) ∙ c .test-finite .ensures) ∙ fit (c .before)
 
 returns-5 : tie.Need-returns-5 Inv-loop μ-loop
 returns-5 c = ap (λ (d : Crossing). answered (listed d)) (sym (c .enum-told2 .given .1)) ∙ met (c .before .before .before .before .before) _ (c .before .before .before .c .given .1)
