@@ -17,13 +17,6 @@ use Rattle.cone.specs.Cone.{boundingConeOf, coneAt, centerOf, gravityCen
 use borrow.Author.Needs.{needs}
 use Rattle.cone.proofs.bounding_cone.Statement.{statement}
 use Rattle.cone.proofs.bounding_cone.Tie as tie
-use Rattle.cone.proofs.bounding_cone.Reads as reads
-use Rattle.cone.proofs.bounding_cone.Lts as lts
-use Rattle.cone.proofs.center_of.Reads as center-of-reads
-use Rattle.cone.proofs.d2_max.Reads as d2-max-reads
-use Rattle.cone.proofs.gravity_center.Reads as gravity-center-reads
-use Rattle.coo3d.proofs.UnitVect3.is_finite.Reads as is-finite-reads
-use Rattle.domain.proofs.check_points.Reads as check-points-reads
 
 passed-on : (l : List Coo3D) (n k : ℕ) (vs : List ℕ) → refused k vs ≡ pointsOf l n → refused k vs ≡ boundingConeOf l n
 unfolding boundingConeOf
@@ -43,48 +36,38 @@ not-finite u ps b e t = simp (sym e ∙ t)
 done : (c : tie.After-ps) → answered (take (c .before .before .before .before .args .count) (c .before .before .before .check-points .result .points)) ≡ pointsOf (c .before .before .before .before .args .points) (c .before .before .before .before .args .count)
 done c = ap (λ (o : Outcome). outcomeOf o (take (c .before .before .before .before .args .count) (c .before .before .before .check-points .result .points))) (sym (c .before .enum-told .given .1)) ∙ c .before .before .before .check-points .ensures
 
--- src/lib.rt:75:9
 check-points-requires : tie.Need-check-points-requires
 check-points-requires c κs = search needs
 
--- src/lib.rt:78:26
 enum-known-outcome : tie.Need-enum-known-outcome
 enum-known-outcome c = search needs
 
--- src/lib.rt:80:17
 enum-told : tie.Need-enum-told
 enum-told c = search needs
 
--- src/lib.rt:81:36
 gravity-center-requires : tie.Need-gravity-center-requires
 gravity-center-requires c κs = points-count _ _ _ (sym (done c)) .1
 
--- src/lib.rt:81:17
 center-of-requires : tie.Need-center-of-requires
 center-of-requires c κs = search needs
 
--- src/lib.rt:82:16
 is-finite-requires : tie.Need-is-finite-requires
 is-finite-requires c κs = search needs
 
--- src/lib.rt:85:29
 d2-max-requires : tie.Need-d2-max-requires
 d2-max-requires c κs = points-count _ _ _ (sym (done (c .before .before .before .before))) .1
 
--- src/lib.rt:72:1
 returns : tie.Need-returns
 returns c =
     let a = c .before .before .before .before .args in
     let r = c .before .before .before .check-points in
     passed-on (a .points) (a .count) _ _ (ap (λ (o : Outcome). outcomeOf o (take (a .count) (r .result .points))) (sym (c .before .outcome .given .1)) ∙ r .ensures)
 
--- src/lib.rt:72:1
 returns-2 : tie.Need-returns-2
 returns-2 c =
     made _ _ _ _ (c .before .before .is-finite .ensures) (c .before .if1 .taken) (c .d2-max .ensures)
     ∙ taken _ _ _ _ _ (done (c .before .before .before .before .before)) (c .before .before .before .before .gravity-center .ensures) (c .before .before .before .center-of .ensures)
 
--- src/lib.rt:72:1
 returns-3 : tie.Need-returns-3
 returns-3 c =
     let ps = take (c .before .before .before .before .before .before .before .before .args .count) (c .before .before .before .before .before .before .before .check-points .result .points) in

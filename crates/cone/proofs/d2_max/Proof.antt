@@ -14,12 +14,6 @@ use Rattle.coo3d.specs.declared.Coo3D.{Coo3D}
 use Rattle.lists.proofs.Passing.{next-left, none-left}
 use Rattle.cone.proofs.d2_max.Statement.{statement}
 use Rattle.cone.proofs.d2_max.Tie as tie
-use Rattle.cone.proofs.d2_max.Reads as reads
-use Rattle.cone.proofs.d2_max.Lts as lts
-use Rattle.coo3d.proofs.Coo3D.to_vect3.Reads as Coo3D-to-vect3-reads
-use Rattle.coo3d.proofs.UnitVect3.to_vect3.Reads as UnitVect3-to-vect3-reads
-use Rattle.coo3d.proofs.Vect3.squared_euclidean_dist.Reads as squared-euclidean-dist-reads
-use Rattle.float.proofs.max.Reads as max-reads
 
 abbrev Inv-loop : tie.InvT-loop
 Inv-loop count points c d2₀ i₀ d2 i = (i ≤ count) × (d2MaxFrom d2 c (drop i (take count points)) ≡ d2MaxFrom nought c (take count points))
@@ -38,43 +32,33 @@ end : (d2 : Float) (c : Vect3) (l : List Coo3D) (n i : ℕ) → n ≤ length l �
 unfolding d2MaxFrom
 end d2 c l n i h k = rw (none-left l n i h k)
 
--- src/lib.rt:54:9
 to-vect3-requires : tie.Need-to-vect3-requires Inv-loop μ-loop
 to-vect3-requires c κs = search needs
 
--- src/lib.rt:57:5
 loop-holds : tie.Need-loop-holds Inv-loop μ-loop
 loop-holds c = (search needs, refl)
 
--- src/lib.rt:58:17
 mul-p : tie.Need-mul-p Inv-loop μ-loop
 mul-p c = search needs
 
--- src/lib.rt:58:17
 array-copy-out-p : tie.Need-array-copy-out-p Inv-loop μ-loop
 array-copy-out-p c = search needs
 
--- src/lib.rt:59:54
 to-vect3-requires-2 : tie.Need-to-vect3-requires-2 Inv-loop μ-loop
 to-vect3-requires-2 c κs = search needs
 
--- src/lib.rt:59:29
 squared-euclidean-dist-requires : tie.Need-squared-euclidean-dist-requires Inv-loop μ-loop
 squared-euclidean-dist-requires c κs = search needs
 
--- src/lib.rt:59:9
 max-requires : tie.Need-max-requires Inv-loop μ-loop
 max-requires c κs = search needs
 
--- src/lib.rt:60:9
 add-i : tie.Need-add-i Inv-loop μ-loop
 add-i c = search needs
 
--- src/lib.rt:57:5
 loop-less : tie.Need-loop-less Inv-loop μ-loop
 loop-less c = search needs
 
--- src/lib.rt:57:5
 loop-again : tie.Need-loop-again Inv-loop μ-loop
 loop-again c =
     let s = c .before .before .before .before .before .before .before in
@@ -83,7 +67,6 @@ loop-again c =
     let e = c .max .ensures ∙ ap (λ (x : Float). maxOf (l .d2) x) (c .before .squared-euclidean-dist .ensures ∙ ap (squaredDistOf v) (c .before .before .to-vect32 .ensures)) in
     (search needs, ap (λ (x : Float). d2MaxFrom x v (drop (l .i + 1) (take (s .args .count) (s .args .t2)))) e ∙ sym (step (l .d2) v (s .args .t2) (s .args .count) (l .i) _ (long s) (search needs)) ∙ l .inv .1)
 
--- src/lib.rt:50:1
 returns : tie.Need-returns Inv-loop μ-loop
 returns c =
     let s = c .before .before .before in

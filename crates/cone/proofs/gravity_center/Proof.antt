@@ -12,8 +12,6 @@ use Rattle.lists.proofs.Passing.{next-left, none-left}
 use Rattle.cone.specs.Cone.{sumFrom, gravityCenter}
 use Rattle.cone.proofs.gravity_center.Statement.{statement}
 use Rattle.cone.proofs.gravity_center.Tie as tie
-use Rattle.cone.proofs.gravity_center.Reads as reads
-use Rattle.cone.proofs.gravity_center.Lts as lts
 
 abbrev Inv-loop : tie.InvT-loop
 Inv-loop count points x₀ y₀ z₀ i₀ x y z i = (i ≤ count) × (sumFrom x y z (drop i (take count points)) ≡ gravityCenter (take count points))
@@ -32,34 +30,27 @@ end : (x y z : Float) (l : List Coo3D) (n i : ℕ) → n ≤ length l → n ≤ 
 unfolding sumFrom
 end x y z l n i h k = rw (none-left l n i h k)
 
--- src/lib.rt:32:5
 loop-holds : tie.Need-loop-holds Inv-loop μ-loop
 loop-holds c = (search needs, refl)
 
--- src/lib.rt:33:17
 mul-p : tie.Need-mul-p Inv-loop μ-loop
 mul-p c = search needs
 
--- src/lib.rt:33:17
 array-copy-out-p : tie.Need-array-copy-out-p Inv-loop μ-loop
 array-copy-out-p c = search needs
 
--- src/lib.rt:37:9
 add-i : tie.Need-add-i Inv-loop μ-loop
 add-i c = search needs
 
--- src/lib.rt:32:5
 loop-less : tie.Need-loop-less Inv-loop μ-loop
 loop-less c = search needs
 
--- src/lib.rt:32:5
 loop-again : tie.Need-loop-again Inv-loop μ-loop
 loop-again c =
     let s = c .before .before .before .before .before .before in
     let l = c .before .before .before .before .before .loop in
     (search needs, sym (step (l .x) (l .y) (l .z) (s .args .t1) (s .args .count) (l .i) _ (long s) (search needs)) ∙ l .inv .1)
 
--- src/lib.rt:24:1
 returns : tie.Need-returns Inv-loop μ-loop
 returns c =
     let s = c .before .before in

@@ -1,16 +1,12 @@
+-- `coo3d::is_unit_from_norm` meets its contract. Assumes nothing.
 use Rattle.coo3d.specs.Vectors.{isUnit}
 use borrow.Author.Needs.{needs}
 use Rattle.coo3d.proofs.is_unit_from_norm.Statement.{statement}
 use Rattle.coo3d.proofs.is_unit_from_norm.Tie as tie
-use Rattle.coo3d.proofs.is_unit_from_norm.Reads as reads
-use Rattle.coo3d.proofs.is_unit_from_norm.Lts as lts
-use Rattle.float.proofs.abs.Reads as abs-reads
 
--- src/lib.rt:61:5
 abs-requires : tie.Need-abs-requires
 abs-requires c κs = search needs
 
--- src/lib.rt:58:1
 returns : tie.Need-returns
 unfolding isUnit
 returns c = simp (c .abs .ensures)

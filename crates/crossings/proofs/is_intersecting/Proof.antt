@@ -1,38 +1,29 @@
-use mathlib.Core.Path.{_≡_, sym, ap, _∙_}
-use Rattle.refusal.specs.Answer.{Answer}
-use mathlib.Core.Bool.{Bool}
+-- `crossings::is_intersecting` meets its contract. Assumes nothing.
+use mathlib.Core.Path.{_≡_}
 use Rattle.crossings.specs.declared.FirstAnswer.{FirstAnswer}
 use Rattle.crossings.specs.Crossings.{firstAnswer, intersectingOf}
 use borrow.Author.Needs.{needs}
 use Rattle.crossings.proofs.is_intersecting.Statement.{statement}
 use Rattle.crossings.proofs.is_intersecting.Tie as tie
-use Rattle.crossings.proofs.is_intersecting.Reads as reads
-use Rattle.crossings.proofs.is_intersecting.Lts as lts
 
 told : (a b : FirstAnswer) → a ≡ b → intersectingOf (firstAnswer b) ≡ intersectingOf (firstAnswer a)
 told a b e = rw e
 
--- src/lib.rt:81:31
 enum-told : tie.Need-enum-told
 enum-told c = search needs
 
--- src/lib.rt:82:30
 enum-told-2 : tie.Need-enum-told-2
 enum-told-2 c = search needs
 
--- src/lib.rt:83:30
 enum-known-first : tie.Need-enum-known-first
 enum-known-first c = search needs
 
--- src/lib.rt:77:1
 returns : tie.Need-returns
 returns c = told _ _ (c .enum-told .given .1)
 
--- src/lib.rt:77:1
 returns-2 : tie.Need-returns-2
 returns-2 c = told _ _ (c .enum-told2 .given .1)
 
--- src/lib.rt:77:1
 returns-3 : tie.Need-returns-3
 returns-3 c = told _ _ (c .before .first .given .1)
 

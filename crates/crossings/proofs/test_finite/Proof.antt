@@ -1,4 +1,5 @@
-use mathlib.Core.Path.{_≡_, sym, ap, _∙_}
+-- `crossings::test_finite` meets its contract. Assumes nothing.
+use mathlib.Core.Path.{_≡_, sym, _∙_}
 use mathlib.Core.Bool.{Bool, true, false}
 use mathlib.Core.List.{[]}
 use Rattle.coo3d.specs.declared.UnitVect3.{UnitVect3}
@@ -10,9 +11,6 @@ use Rattle.crossings.specs.Crossings.{testedOf}
 use borrow.Author.Needs.{needs}
 use Rattle.crossings.proofs.test_finite.Statement.{statement}
 use Rattle.crossings.proofs.test_finite.Tie as tie
-use Rattle.crossings.proofs.test_finite.Reads as reads
-use Rattle.crossings.proofs.test_finite.Lts as lts
-use Rattle.coo3d.proofs.UnitVect3.is_finite.Reads as is-finite-reads
 
 at-finite : (c : Crossing) (p : UnitVect3) (b : Bool) → c ≡ At p → b ≡ isFiniteUnit p → b ≡ true → answered (At p) ≡ testedOf c
 at-finite c p b e f t = rw (e, sym f ∙ t)
@@ -23,27 +21,21 @@ at-other c p b e f t = rw (e, sym f ∙ t)
 none : (c : Crossing) → c ≡ None → answered c ≡ testedOf c
 none c e = rw e
 
--- src/lib.rt:65:22
 enum-known-crossing : tie.Need-enum-known-crossing
 enum-known-crossing c = search needs
 
--- src/lib.rt:66:16
 is-finite-requires : tie.Need-is-finite-requires
 is-finite-requires c κs = search needs
 
--- src/lib.rt:72:27
 enum-told : tie.Need-enum-told
 enum-told c = search needs
 
--- src/lib.rt:61:1
 returns : tie.Need-returns
 returns c = at-finite _ _ _ (c .before .before .before .crossing .given .1) (c .before .is-finite .ensures) (c .if1 .taken)
 
--- src/lib.rt:61:1
 returns-2 : tie.Need-returns-2
 returns-2 c = at-other _ _ _ (c .before .before .before .crossing .given .1) (c .before .is-finite .ensures) (c .if1 .left)
 
--- src/lib.rt:61:1
 returns-3 : tie.Need-returns-3
 returns-3 c = none _ (c .enum-told .given .1)
 

@@ -1,22 +1,17 @@
+-- `domain::check_point` meets its contract. Assumes nothing.
 use mathlib.Core.Path.{sym}
 use Rattle.domain.specs.Checks.{pointAt}
 use borrow.Author.Needs.{needs}
 use Rattle.domain.proofs.check_point.Statement.{statement}
 use Rattle.domain.proofs.check_point.Tie as tie
-use Rattle.domain.proofs.check_point.Reads as reads
-use Rattle.domain.proofs.check_point.Lts as lts
-use Rattle.domain.proofs.in_domain.Reads as in-domain-reads
 
--- src/lib.rt:48:8
 in-domain-requires : tie.Need-in-domain-requires
 in-domain-requires c κs = search needs
 
--- src/lib.rt:45:1
 returns : tie.Need-returns
 unfolding pointAt
 returns c = simp (sym (c .before .in-domain .ensures), c .if1 .taken)
 
--- src/lib.rt:45:1
 returns-2 : tie.Need-returns-2
 unfolding pointAt
 returns-2 c = simp (sym (c .before .in-domain .ensures), c .if1 .left)

@@ -1,4 +1,5 @@
-use Prim.Native.Nat.{ℕ, _≤_, _<_, _-_}
+-- `domain::check_points` meets its contract. Assumes nothing.
+use Prim.Native.Nat.{_≤_, _-_}
 use native.Mathlib.Omega.{arith}
 use mathlib.Core.Path.{_≡_, sym, ap, _∙_}
 use borrow.Author.Needs.{needs}
@@ -8,9 +9,6 @@ use Rattle.domain.proofs.Points.{soFar, far-start, far-good, far-bad, f
 use Rattle.domain.proofs.Counts.{count-none, count-many, count-few}
 use Rattle.domain.proofs.check_points.Statement.{statement}
 use Rattle.domain.proofs.check_points.Tie as tie
-use Rattle.domain.proofs.check_points.Reads as reads
-use Rattle.domain.proofs.check_points.Lts as lts
-use Rattle.domain.proofs.check_point.Reads as check-point-reads
 
 abbrev Inv-loop : tie.InvT-loop
 Inv-loop count points out₀ i₀ out i = (i ≤ count) × ((length out ≡ 64) × (soFar points count i out ≡ pointsFrom 0 (take count points)))
@@ -22,41 +20,32 @@ abbrev μ-loop : tie.MeasureT-loop
 long : (c : tie.Start Inv-loop μ-loop) → c .args .count ≤ 64 → c .args .count ≤ length (c .args .t1)
 long c h = let e : length (c .args .t1) ≡ 64 = search needs in omega arith
 
--- src/lib.rt:70:9
 returns : tie.Need-returns Inv-loop μ-loop
 unfolding pointsOf
 returns c = sym (count-none _ _ (c .if1 .taken))
 
--- src/lib.rt:76:9
 returns-2 : tie.Need-returns-2 Inv-loop μ-loop
 unfolding pointsOf
 returns-2 c = sym (count-many _ _ (c .before .if1 .left) (c .if2 .taken))
 
--- src/lib.rt:83:5
 loop-holds : tie.Need-loop-holds Inv-loop μ-loop
 loop-holds c = (search needs, (search needs, far-start _ _ _))
 
--- src/lib.rt:84:17
 mul-p : tie.Need-mul-p Inv-loop μ-loop
 mul-p c = search needs
 
--- src/lib.rt:84:17
 array-copy-out-p : tie.Need-array-copy-out-p Inv-loop μ-loop
 array-copy-out-p c = search needs
 
--- src/lib.rt:85:36
 check-point-requires : tie.Need-check-point-requires Inv-loop μ-loop
 check-point-requires c κs = search needs
 
--- src/lib.rt:85:31
 enum-known-q : tie.Need-enum-known-q Inv-loop μ-loop
 enum-known-q c = search needs
 
--- src/lib.rt:87:17
 enum-told : tie.Need-enum-told Inv-loop μ-loop
 enum-told c = search needs
 
--- src/lib.rt:86:13
 returns-3 : tie.Need-returns-3 Inv-loop μ-loop
 unfolding pointsOf
 returns-3 c =
@@ -65,23 +54,18 @@ returns-3 c =
     let told = ap pointAnswer (sym (c .enum-told .given .1)) ∙ c .before .before .check-point .ensures in
     sym (far-bad _ _ _ (l .out) _ (long s (search needs)) (search needs) _ _ told) ∙ l .inv .1 .1 ∙ sym (count-few (s .args .count) _ (search needs) (search needs))
 
--- src/lib.rt:91:9
 mul-out : tie.Need-mul-out Inv-loop μ-loop
 mul-out c = search needs
 
--- src/lib.rt:91:9
 array-set-from-out : tie.Need-array-set-from-out Inv-loop μ-loop
 array-set-from-out c = search needs
 
--- src/lib.rt:92:9
 add-i : tie.Need-add-i Inv-loop μ-loop
 add-i c = search needs
 
--- src/lib.rt:83:5
 loop-less : tie.Need-loop-less Inv-loop μ-loop
 loop-less c = search needs
 
--- src/lib.rt:83:5
 loop-again : tie.Need-loop-again Inv-loop μ-loop
 loop-again c =
     let s = c .before .before .before .before .before .before .before .before .before in
@@ -94,7 +78,6 @@ loop-again c =
       ),
     )
 
--- src/lib.rt:66:1
 returns-4 : tie.Need-returns-4 Inv-loop μ-loop
 unfolding pointsOf
 returns-4 c =

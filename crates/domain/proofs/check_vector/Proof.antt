@@ -1,22 +1,17 @@
+-- `domain::check_vector` meets its contract. Assumes nothing.
 use mathlib.Core.Path.{sym}
 use Rattle.domain.specs.Checks.{vectorAt}
 use borrow.Author.Needs.{needs}
 use Rattle.domain.proofs.check_vector.Statement.{statement}
 use Rattle.domain.proofs.check_vector.Tie as tie
-use Rattle.domain.proofs.check_vector.Reads as reads
-use Rattle.domain.proofs.check_vector.Lts as lts
-use Rattle.domain.proofs.vector_in_domain.Reads as vector-in-domain-reads
 
--- src/lib.rt:58:8
 vector-in-domain-requires : tie.Need-vector-in-domain-requires
 vector-in-domain-requires c κs = search needs
 
--- src/lib.rt:55:1
 returns : tie.Need-returns
 unfolding vectorAt
 returns c = simp (sym (c .before .vector-in-domain .ensures), c .if1 .taken)
 
--- src/lib.rt:55:1
 returns-2 : tie.Need-returns-2
 unfolding vectorAt
 returns-2 c = simp (sym (c .before .vector-in-domain .ensures), c .if1 .left)

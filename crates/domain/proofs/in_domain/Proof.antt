@@ -9,9 +9,6 @@ use Rattle.domain.specs.Domain.{inDomain}
 use borrow.Author.Needs.{needs}
 use Rattle.domain.proofs.in_domain.Statement.{statement}
 use Rattle.domain.proofs.in_domain.Tie as tie
-use Rattle.domain.proofs.in_domain.Reads as reads
-use Rattle.domain.proofs.in_domain.Lts as lts
-use Rattle.float.proofs.within.Reads as within-reads
 
 -- where a test holds only with another, the two are the one
 absorb : (f w : Bool) → (w ≡ true → f ≡ true) → (f && w) ≡ w
@@ -42,27 +39,21 @@ finite-too : (p : Coo3D) → inDomain p ≡ (inclusive (neg two) (p .x) two && i
 unfolding inDomain ofBits neg
 finite-too p = absorb-five _ _ _ _ _ _ _ _ _ _ (between-finite _ _ _ _ _ _ (p .x)) (between-finite _ _ _ _ _ _ (p .y)) (between-finite _ _ _ _ _ _ (p .z)) (between-finite _ _ _ _ _ _ (p .lon)) (between-finite _ _ _ _ _ _ (p .lat))
 
--- src/lib.rt:31:5
 within-requires : tie.Need-within-requires
 within-requires c κs = search needs
 
--- src/lib.rt:32:11
 within-requires-2 : tie.Need-within-requires-2
 within-requires-2 c κs = search needs
 
--- src/lib.rt:33:11
 within-requires-3 : tie.Need-within-requires-3
 within-requires-3 c κs = search needs
 
--- src/lib.rt:34:11
 within-requires-4 : tie.Need-within-requires-4
 within-requires-4 c κs = search needs
 
--- src/lib.rt:35:11
 within-requires-5 : tie.Need-within-requires-5
 within-requires-5 c κs = search needs
 
--- src/lib.rt:28:1
 returns : tie.Need-returns
 returns c =
     let a = c .before .before .before .before .before .args in

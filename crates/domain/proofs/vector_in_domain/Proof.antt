@@ -1,24 +1,18 @@
+-- `domain::vector_in_domain` meets its contract. Assumes nothing.
 use Rattle.domain.specs.Domain.{vectorInDomain}
 use borrow.Author.Needs.{needs}
 use Rattle.domain.proofs.vector_in_domain.Statement.{statement}
 use Rattle.domain.proofs.vector_in_domain.Tie as tie
-use Rattle.domain.proofs.vector_in_domain.Reads as reads
-use Rattle.domain.proofs.vector_in_domain.Lts as lts
-use Rattle.float.proofs.within.Reads as within-reads
 
--- src/lib.rt:41:5
 within-requires : tie.Need-within-requires
 within-requires c κs = search needs
 
--- src/lib.rt:41:37
 within-requires-2 : tie.Need-within-requires-2
 within-requires-2 c κs = search needs
 
--- src/lib.rt:41:69
 within-requires-3 : tie.Need-within-requires-3
 within-requires-3 c κs = search needs
 
--- src/lib.rt:38:1
 returns : tie.Need-returns
 unfolding vectorInDomain
 returns c = simp (c .before .before .within .ensures, c .before .within2 .ensures, c .within3 .ensures)

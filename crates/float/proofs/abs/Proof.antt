@@ -4,16 +4,14 @@ use native.Mathlib.Nat.{mul-pos, pow-succ'}
 use native.Mathlib.Omega.{arith}
 use mathlib.Core.Path.{_≡_, refl, sym, ap, _∙_, subst}
 use mathlib.Core.Bool.{Bool, true, false, _&&_, true≢false, false≢true}
-use lib.Dec.{T, ltb, eqb, eqb→eq}
+use lib.Dec.{T, eqb, eqb→eq}
 use borrow.Author.Tests.{ltb-true, ltb-false, eqb-true, eq-eqb}
 use lib.IntN.{ℤ, pos, negsuc}
 use lib.Ieee.{Float, nan, inf, fin, binary64, up, down, lt, eq, neg, ofBits, fits}
-use lib.Ieee.Fits.{up-pos, down-pos}
+use lib.Ieee.Fits.{up-pos}
 use Rattle.float.specs.Doubles.{absOf, nought}
 use Rattle.float.proofs.abs.Statement.{statement}
 use Rattle.float.proofs.abs.Tie as tie
-use Rattle.float.proofs.abs.Reads as reads
-use Rattle.float.proofs.abs.Lts as lts
 
 negative : (x : Float) → lt x nought ≡ true → neg x ≡ absOf x
 unfolding lt neg absOf ofBits

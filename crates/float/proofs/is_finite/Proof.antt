@@ -1,10 +1,9 @@
 -- `float::is_finite` meets its contract: a finite number less itself is +0, and an infinity less itself is a NaN. Assumes nothing.
-use Prim.Native.Nat.{ℕ, _*_, _-_, _<_}
+use Prim.Native.Nat.{ℕ, _*_, _<_}
 use native.Mathlib.Nat.{le-refl, mul-pos, sub-self, zero-mul}
 use native.Mathlib.Omega.{arith}
 use mathlib.Core.Path.{_≡_, refl, sym, ap, _∙_}
 use mathlib.Core.Bool.{Bool, true, false, not}
-use lib.Dec.{ltb}
 use lib.Ieee.{Float, nan, inf, fin, binary64, up, down, round, sum, add, sub, neg, eq, ofBits}
 use lib.Ieee.Fits.{down-pos}
 use lib.Ieee.Scale.{round-same}

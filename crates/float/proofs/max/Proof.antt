@@ -1,5 +1,4 @@
 -- `float::max` meets its contract. Assumes nothing.
-use Rattle.float.specs.Doubles.{maxOf}
 use Rattle.float.proofs.max.Statement.{statement}
 use Rattle.float.proofs.max.Tie as tie
 

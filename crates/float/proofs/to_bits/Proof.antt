@@ -2,7 +2,7 @@
 use mathlib.Core.Path.{_≡_, refl, sym, ap, subst, _∙_}
 use borrow.Author.Needs.{needs}
 use lib.Dec.{T}
-use lib.Ieee.{Float, nan, binary64, toBits}
+use lib.Ieee.{nan, binary64, toBits}
 use lib.Ieee.Compare.{differs-from-itself}
 use Rattle.float.proofs.Nan.{not-nan}
 use Rattle.float.proofs.to_bits.Statement.{statement}

@@ -1,25 +1,20 @@
+-- `great_circles::are_overlapping_in_lon` meets its contract. Assumes nothing.
 use Rattle.great_circles.specs.Arcs.{overlapInLon}
 use Rattle.great_circles.proofs.are_overlapping_in_lon.Statement.{statement}
 use Rattle.great_circles.proofs.are_overlapping_in_lon.Tie as tie
-use Rattle.great_circles.proofs.are_overlapping_in_lon.Reads as reads
-use Rattle.great_circles.proofs.are_overlapping_in_lon.Lts as lts
 
--- src/lib.rt:38:1
 returns : tie.Need-returns
 unfolding overlapInLon
 returns c = simp (c .before .before .before .before .before .before .before .if1 .taken, c .before .before .before .before .if2 .taken)
 
--- src/lib.rt:38:1
 returns-2 : tie.Need-returns-2
 unfolding overlapInLon
 returns-2 c = simp (c .before .before .before .before .before .before .before .if1 .taken, c .before .before .before .before .if2 .left)
 
--- src/lib.rt:38:1
 returns-3 : tie.Need-returns-3
 unfolding overlapInLon
 returns-3 c = simp (c .before .before .before .before .before .before .before .if1 .left, c .before .before .before .before .if3 .taken)
 
--- src/lib.rt:38:1
 returns-4 : tie.Need-returns-4
 unfolding overlapInLon
 returns-4 c = simp (c .before .before .before .if1 .left, c .if3 .left)

@@ -1,4 +1,5 @@
-use mathlib.Core.Path.{_≡_, refl, sym, ap, _∙_}
+-- `great_circles::circle_crossing` meets its contract. Assumes nothing.
+use mathlib.Core.Path.{_≡_, sym, _∙_}
 use mathlib.Core.Bool.{Bool, true, false}
 use Rattle.coo3d.specs.declared.UnitVect3.{UnitVect3}
 use Rattle.coo3d.specs.declared.Vect3.{Vect3}
@@ -9,13 +10,6 @@ use Rattle.great_circles.specs.Circles.{isBeyond, circleCrossing}
 use borrow.Author.Needs.{needs}
 use Rattle.great_circles.proofs.circle_crossing.Statement.{statement}
 use Rattle.great_circles.proofs.circle_crossing.Tie as tie
-use Rattle.great_circles.proofs.circle_crossing.Reads as reads
-use Rattle.great_circles.proofs.circle_crossing.Lts as lts
-use Rattle.coo3d.proofs.Coo3D.to_vect3.Reads as to-vect3-reads
-use Rattle.coo3d.proofs.UnitVect3.opposite.Reads as opposite-reads
-use Rattle.coo3d.proofs.Vect3.normalized.Reads as normalized-reads
-use Rattle.coo3d.proofs.cross_product.Reads as cross-product-reads
-use Rattle.great_circles.proofs.is_beyond.Reads as is-beyond-reads
 
 module _ (n : Vect3) (e : Edge) (pa pb v : Vect3) (i : UnitVect3) (first : Bool) (ea : pa ≡ vectOfPoint (e .from)) (eb : pb ≡ vectOfPoint (e .to)) (ev : v ≡ crossOf (e .normal) n) (ei : i ≡ normalizedOf v) (ef : first ≡ isBeyond i pa pb) where
   at-first : first ≡ true → At i ≡ circleCrossing n e
@@ -31,43 +25,33 @@ module _ (n : Vect3) (e : Edge) (pa pb v : Vect3) (i : UnitVect3) (first : Bool)
     unfolding circleCrossing
     nowhere t = rw (sym ea, sym eb, sym ev, sym ei, sym ef ∙ nf, sym eo, sym es ∙ t)
 
--- src/lib.rt:117:9
 to-vect3-requires : tie.Need-to-vect3-requires
 to-vect3-requires c κs = search needs
 
--- src/lib.rt:118:9
 to-vect3-requires-2 : tie.Need-to-vect3-requires-2
 to-vect3-requires-2 c κs = search needs
 
--- src/lib.rt:119:9
 cross-product-requires : tie.Need-cross-product-requires
 cross-product-requires c κs = search needs
 
--- src/lib.rt:120:9
 normalized-requires : tie.Need-normalized-requires
 normalized-requires c κs = search needs
 
--- src/lib.rt:121:8
 is-beyond-requires : tie.Need-is-beyond-requires
 is-beyond-requires c κs = search needs
 
--- src/lib.rt:122:9
 returns : tie.Need-returns
 returns c = at-first _ _ _ _ _ _ _ (c .before .before .before .before .before .to-vect3 .ensures) (c .before .before .before .before .to-vect32 .ensures) (c .before .before .before .cross-product .ensures) (c .before .before .normalized .ensures) (c .before .is-beyond .ensures) (c .if1 .taken)
 
--- src/lib.rt:124:9
 opposite-requires : tie.Need-opposite-requires
 opposite-requires c κs = search needs
 
--- src/lib.rt:125:8
 is-beyond-requires-2 : tie.Need-is-beyond-requires-2
 is-beyond-requires-2 c κs = search needs
 
--- src/lib.rt:114:1
 returns-2 : tie.Need-returns-2
 returns-2 c = at-second _ _ _ _ _ _ _ (c .before .before .before .before .before .before .before .before .to-vect3 .ensures) (c .before .before .before .before .before .before .before .to-vect32 .ensures) (c .before .before .before .before .before .before .cross-product .ensures) (c .before .before .before .before .before .normalized .ensures) (c .before .before .before .before .is-beyond .ensures) _ _ (c .before .before .opposite .ensures) (c .before .is-beyond2 .ensures) (c .before .before .before .if1 .left) (c .if2 .taken)
 
--- src/lib.rt:114:1
 returns-3 : tie.Need-returns-3
 returns-3 c = nowhere _ _ _ _ _ _ _ (c .before .before .before .before .before .before .before .before .to-vect3 .ensures) (c .before .before .before .before .before .before .before .to-vect32 .ensures) (c .before .before .before .before .before .before .cross-product .ensures) (c .before .before .before .before .before .normalized .ensures) (c .before .before .before .before .is-beyond .ensures) _ _ (c .before .before .opposite .ensures) (c .before .is-beyond2 .ensures) (c .before .before .before .if1 .left) (c .if2 .left)
 

@@ -1,5 +1,6 @@
+-- `great_circles::crossing_of` meets its contract. Assumes nothing.
 use borrow.Author.Tests.{not-true, not-false}
-use mathlib.Core.Path.{_≡_, refl, sym, ap, _∙_}
+use mathlib.Core.Path.{_≡_, sym, _∙_}
 use mathlib.Core.Bool.{Bool, true, false}
 use lib.Ieee.{Float, lt}
 use Rattle.coo3d.specs.declared.Coo3D.{Coo3D}
@@ -14,13 +15,6 @@ use Rattle.great_circles.specs.Arcs.{overlapInLon, intersectPoint, inEdg
 use borrow.Author.Needs.{needs}
 use Rattle.great_circles.proofs.crossing_of.Statement.{statement}
 use Rattle.great_circles.proofs.crossing_of.Tie as tie
-use Rattle.great_circles.proofs.crossing_of.Reads as reads
-use Rattle.great_circles.proofs.crossing_of.Lts as lts
-use Rattle.coo3d.proofs.Coo3D.to_vect3.Reads as to-vect3-reads
-use Rattle.coo3d.proofs.dot_product.Reads as dot-product-reads
-use Rattle.great_circles.proofs.are_overlapping_in_lon.Reads as are-overlapping-in-lon-reads
-use Rattle.great_circles.proofs.in_edge.Reads as in-edge-reads
-use Rattle.great_circles.proofs.normalized_intersect_point.Reads as normalized-intersect-point-reads
 
 module _ (a b pa pb : Coo3D) (n : Vect3) (over : Bool) (eo : over ≡ overlapInLon (a .lon) (b .lon) (pa .lon) (pb .lon)) where
   apart : over ≡ false → None ≡ crossingOf a b pa pb n
@@ -36,43 +30,33 @@ module _ (a b pa pb : Coo3D) (n : Vect3) (over : Bool) (eo : over ≡ overlapInL
     unfolding crossingOf
     one-side t = rw (sym eo ∙ to, sym ea, sym eb, sym fa, sym fb, t)
 
--- src/lib.rt:87:9
 are-overlapping-in-lon-requires : tie.Need-are-overlapping-in-lon-requires
 are-overlapping-in-lon-requires c κs = search needs
 
--- src/lib.rt:88:9
 returns : tie.Need-returns
 returns c = apart _ _ _ _ _ _ (c .before .are-overlapping-in-lon .ensures) (not-true _ (c .if1 .taken))
 
--- src/lib.rt:90:33
 to-vect3-requires : tie.Need-to-vect3-requires
 to-vect3-requires c κs = search needs
 
--- src/lib.rt:90:9
 dot-product-requires : tie.Need-dot-product-requires
 dot-product-requires c κs = search needs
 
--- src/lib.rt:91:33
 to-vect3-requires-2 : tie.Need-to-vect3-requires-2
 to-vect3-requires-2 c κs = search needs
 
--- src/lib.rt:91:9
 dot-product-requires-2 : tie.Need-dot-product-requires-2
 dot-product-requires-2 c κs = search needs
 
--- src/lib.rt:93:17
 normalized-intersect-point-requires : tie.Need-normalized-intersect-point-requires
 normalized-intersect-point-requires c κs = search needs
 
--- src/lib.rt:93:9
 in-edge-requires : tie.Need-in-edge-requires
 in-edge-requires c κs = search needs
 
--- src/lib.rt:84:1
 returns-2 : tie.Need-returns-2
 returns-2 c = crossed _ _ _ _ _ _ (c .before .before .before .before .before .before .before .before .are-overlapping-in-lon .ensures) _ _ _ _ (c .before .before .before .before .before .before .to-vect3 .ensures) (c .before .before .before .before .to-vect32 .ensures) (c .before .before .before .before .before .dot-product .ensures) (c .before .before .before .dot-product2 .ensures) (not-false _ (c .before .before .before .before .before .before .before .if1 .left)) _ _ (c .before .before .if2 .taken) (c .before .normalized-intersect-point .ensures) (c .in-edge .ensures)
 
--- src/lib.rt:84:1
 returns-3 : tie.Need-returns-3
 returns-3 c = one-side _ _ _ _ _ _ (c .before .before .before .before .before .before .are-overlapping-in-lon .ensures) _ _ _ _ (c .before .before .before .before .to-vect3 .ensures) (c .before .before .to-vect32 .ensures) (c .before .before .before .dot-product .ensures) (c .before .dot-product2 .ensures) (not-false _ (c .before .before .before .before .before .if1 .left)) (c .if2 .left)
 

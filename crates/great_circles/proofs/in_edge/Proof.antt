@@ -1,5 +1,6 @@
-use mathlib.Core.Path.{_≡_, refl, sym, ap, _∙_}
-use mathlib.Core.Bool.{Bool, true, false, _&&_}
+-- `great_circles::in_edge` meets its contract. Assumes nothing.
+use mathlib.Core.Path.{_≡_, sym}
+use mathlib.Core.Bool.{true, false, _&&_}
 use lib.Ieee.{Float, lt}
 use Rattle.coo3d.specs.declared.Coo3D.{Coo3D}
 use Rattle.coo3d.specs.declared.UnitVect3.{UnitVect3}
@@ -11,12 +12,6 @@ use Rattle.great_circles.specs.Arcs.{inEdge}
 use borrow.Author.Needs.{needs}
 use Rattle.great_circles.proofs.in_edge.Statement.{statement}
 use Rattle.great_circles.proofs.in_edge.Tie as tie
-use Rattle.great_circles.proofs.in_edge.Reads as reads
-use Rattle.great_circles.proofs.in_edge.Lts as lts
-use Rattle.coo3d.proofs.Coo3D.to_vect3.Reads as Coo3D-to-vect3-reads
-use Rattle.coo3d.proofs.UnitVect3.to_vect3.Reads as UnitVect3-to-vect3-reads
-use Rattle.coo3d.proofs.dot_product.Reads as dot-product-reads
-use Rattle.float.proofs.abs.Reads as abs-reads
 
 -- the two comparisons, by what the calls answered
 module _ (i : UnitVect3) (pa pb : Coo3D) (va vb v : Vect3) (papb da db xa xb : Float) (ea : va ≡ vectOfPoint pa) (eb : vb ≡ vectOfPoint pb) (ev : v ≡ vectOfUnit i) (ep : papb ≡ dotOf va vb) (fa : da ≡ dotOf va v) (ga : xa ≡ absOf da) (fb : db ≡ dotOf vb v) (gb : xb ≡ absOf db) where
@@ -28,43 +23,33 @@ module _ (i : UnitVect3) (pa pb : Coo3D) (va vb v : Vect3) (papb da db xa xb : F
   unfolding inEdge
   not-held t = rw (sym ea, sym eb, sym ev, sym ep, sym fa, sym fb, sym ga, sym gb, t)
 
--- src/lib.rt:70:9
 to-vect3-requires : tie.Need-to-vect3-requires
 to-vect3-requires c κs = search needs
 
--- src/lib.rt:71:9
 to-vect3-requires-2 : tie.Need-to-vect3-requires-2
 to-vect3-requires-2 c κs = search needs
 
--- src/lib.rt:72:9
 to-vect3-requires-3 : tie.Need-to-vect3-requires-3
 to-vect3-requires-3 c κs = search needs
 
--- src/lib.rt:73:9
 dot-product-requires : tie.Need-dot-product-requires
 dot-product-requires c κs = search needs
 
--- src/lib.rt:74:20
 dot-product-requires-2 : tie.Need-dot-product-requires-2
 dot-product-requires-2 c κs = search needs
 
--- src/lib.rt:74:9
 abs-requires : tie.Need-abs-requires
 abs-requires c κs = search needs
 
--- src/lib.rt:75:23
 dot-product-requires-3 : tie.Need-dot-product-requires-3
 dot-product-requires-3 c κs = search needs
 
--- src/lib.rt:75:12
 abs-requires-2 : tie.Need-abs-requires-2
 abs-requires-2 c κs = search needs
 
--- src/lib.rt:67:1
 returns : tie.Need-returns
 returns c = held _ _ _ _ _ _ _ _ _ _ _ (c .before .before .before .before .before .before .before .before .to-vect3 .ensures) (c .before .before .before .before .before .before .before .to-vect32 .ensures) (c .before .before .before .before .before .before .to-vect33 .ensures) (c .before .before .before .before .before .dot-product .ensures) (c .before .before .before .before .dot-product2 .ensures) (c .before .before .before .abs .ensures) (c .before .before .dot-product3 .ensures) (c .before .abs2 .ensures) (c .if1 .taken)
 
--- src/lib.rt:67:1
 returns-2 : tie.Need-returns-2
 returns-2 c = not-held _ _ _ _ _ _ _ _ _ _ _ (c .before .before .before .before .before .before .before .before .to-vect3 .ensures) (c .before .before .before .before .before .before .before .to-vect32 .ensures) (c .before .before .before .before .before .before .to-vect33 .ensures) (c .before .before .before .before .before .dot-product .ensures) (c .before .before .before .before .dot-product2 .ensures) (c .before .before .before .abs .ensures) (c .before .before .dot-product3 .ensures) (c .before .abs2 .ensures) (c .if1 .left)
 

@@ -1,4 +1,5 @@
-use Prim.Native.Nat.{ℕ, _+_, _-_, _≤_, _<_}
+-- `great_circles::intersect_great_circle_all` meets its contract. Assumes nothing.
+use Prim.Native.Nat.{ℕ, _+_, _-_, _≤_}
 use native.Mathlib.Omega.{arith}
 use mathlib.Core.Path.{_≡_, refl, sym, ap, _∙_}
 use mathlib.Core.List.{List, [], _∷_}
@@ -6,10 +7,8 @@ use borrow.Author.Needs.{needs}
 use lib.ListN.{length, getD, length-set}
 use mathlib.Core.Logic.{⊎-elim}
 use Rattle.coo3d.specs.declared.UnitVect3.{UnitVect3}
-use Rattle.coo3d.specs.declared.Coo3D.{Coo3D}
 use Rattle.crossings.specs.declared.Crossing.{Crossing}
-use Rattle.crossings.specs.declared.Crossing.the-variants.{None, At}
-use Rattle.crossings.specs.Crossings.{crossingsOf, testedAnswer, testedOf, firstOf}
+use Rattle.crossings.specs.Crossings.{crossingsOf, testedAnswer, testedOf}
 use Rattle.domain.proofs.Counts.{count-none, count-many}
 use Rattle.refusal.specs.Answer.{Answer, answered, refused}
 use Rattle.region.specs.Edges.{Edge}
@@ -31,13 +30,6 @@ use Rattle.domain.proofs.Counts.{count-few}
 use Rattle.domain.proofs.Points.{vector-refused}
 use Rattle.great_circles.proofs.intersect_great_circle_all.Statement.{statement}
 use Rattle.great_circles.proofs.intersect_great_circle_all.Tie as tie
-use Rattle.great_circles.proofs.intersect_great_circle_all.Reads as reads
-use Rattle.great_circles.proofs.intersect_great_circle_all.Lts as lts
-use Rattle.crossings.proofs.no_points.Reads as no-points-reads
-use Rattle.crossings.proofs.refused.Reads as refused-reads
-use Rattle.crossings.proofs.test_finite.Reads as test-finite-reads
-use Rattle.domain.proofs.check_vector.Reads as check-vector-reads
-use Rattle.great_circles.proofs.circle_crossing.Reads as circle-crossing-reads
 
 abbrev Inv-loop : tie.InvT-loop
 Inv-loop r count m points₀ len₀ last from₀ i₀ points len from i =
@@ -110,62 +102,48 @@ module _ (y : tie.After-test-finite Inv-loop μ-loop) where
       ap (fill (hit here) (y .before .before .before .before .before .loop .points) (y .before .before .before .before .before .loop .len)) (sym (turn (region here) (y .before .before .before .before .before .loop .from) at (long (start-of here) (few here)) (long' (start-of here) (few here)) (y .before .before .before .before .loop-test .taken)))
       ∙ y .before .before .before .before .before .loop .inv .1 .1 .1
 
--- src/lib.rt:230:9
 refused-requires : tie.Need-refused-requires Inv-loop μ-loop
 refused-requires c κs = search needs
 
--- src/lib.rt:230:9
 returns : tie.Need-returns Inv-loop μ-loop
 unfolding circleAllOf
 returns c = subst (Lists _) (sym (count-none _ _ (c .before .if1 .taken))) (c .refused .ensures)
 
--- src/lib.rt:233:9
 refused-requires-2 : tie.Need-refused-requires-2 Inv-loop μ-loop
 refused-requires-2 c κs = search needs
 
--- src/lib.rt:233:9
 returns-2 : tie.Need-returns-2 Inv-loop μ-loop
 unfolding circleAllOf
 returns-2 c = subst (Lists _) (sym (count-many _ _ (c .before .before .if1 .left) (c .before .if2 .taken))) (c .refused2 .ensures)
 
--- src/lib.rt:235:34
 check-vector-requires : tie.Need-check-vector-requires Inv-loop μ-loop
 check-vector-requires c κs = search needs
 
--- src/lib.rt:235:29
 enum-known-m : tie.Need-enum-known-m Inv-loop μ-loop
 enum-known-m c = search needs
 
--- src/lib.rt:236:35
 enum-told : tie.Need-enum-told Inv-loop μ-loop
 enum-told c = search needs
 
--- src/lib.rt:236:9
 refused-requires-3 : tie.Need-refused-requires-3 Inv-loop μ-loop
 refused-requires-3 c κs = search needs
 
--- src/lib.rt:236:9
 returns-3 : tie.Need-returns-3 Inv-loop μ-loop
 unfolding circleAllOf
 returns-3 c = subst (Lists _) (sym (outside _ _ _ (c .before .before .before .before .before .if1 .left) (c .before .before .before .before .if2 .left) _ _ (ap vectorAnswer (sym (c .before .enum-told .given .1)) ∙ c .before .before .before .check-vector .ensures))) (c .refused3 .ensures)
 
--- src/lib.rt:238:22
 no-points-requires : tie.Need-no-points-requires Inv-loop μ-loop
 no-points-requires c κs = search needs
 
--- src/lib.rt:240:16
 sub-last : tie.Need-sub-last Inv-loop μ-loop
 sub-last c = search needs
 
--- src/lib.rt:241:20
 mul-from : tie.Need-mul-from Inv-loop μ-loop
 mul-from c = search needs
 
--- src/lib.rt:241:20
 element-copy-out-from : tie.Need-element-copy-out-from Inv-loop μ-loop
 element-copy-out-from c = search needs
 
--- src/lib.rt:243:5
 loop-holds : tie.Need-loop-holds Inv-loop μ-loop
 loop-holds c =
     let e = start (region c) (omega (arith, c .before .before .before .before .before .before .before .if1 .left)) (long (start-of c) (few c)) in (
@@ -179,43 +157,33 @@ loop-holds c =
       ),
     )
 
--- src/lib.rt:244:18
 mul-to : tie.Need-mul-to Inv-loop μ-loop
 mul-to c = search needs
 
--- src/lib.rt:244:18
 element-copy-out-to : tie.Need-element-copy-out-to Inv-loop μ-loop
 element-copy-out-to c = search needs
 
--- src/lib.rt:245:22
 mul-normal : tie.Need-mul-normal Inv-loop μ-loop
 mul-normal c = search needs
 
--- src/lib.rt:245:22
 element-copy-out-normal : tie.Need-element-copy-out-normal Inv-loop μ-loop
 element-copy-out-normal c = search needs
 
--- src/lib.rt:246:58
 circle-crossing-requires : tie.Need-circle-crossing-requires Inv-loop μ-loop
 circle-crossing-requires c κs = search needs
 
--- src/lib.rt:246:35
 test-finite-requires : tie.Need-test-finite-requires Inv-loop μ-loop
 test-finite-requires c κs = search needs
 
--- src/lib.rt:246:30
 enum-known-c : tie.Need-enum-known-c Inv-loop μ-loop
 enum-known-c c = search needs
 
--- src/lib.rt:248:39
 enum-told-2 : tie.Need-enum-told-2 Inv-loop μ-loop
 enum-told-2 c = search needs
 
--- src/lib.rt:248:13
 refused-requires-4 : tie.Need-refused-requires-4 Inv-loop μ-loop
 refused-requires-4 c κs = search needs
 
--- src/lib.rt:248:13
 returns-4 : tie.Need-returns-4 Inv-loop μ-loop
 returns-4 c =
     let y = c .before .before .before in
@@ -223,34 +191,27 @@ returns-4 c =
     let e = sym (filled x) ∙ sym (left y) ∙ fill-refused (hit x) _ _ (edge y) (rest y) 6 [] (tested-refused (hit x (edge y)) _ _ (ap testedAnswer (sym (c .before .enum-told2 .given .1)) ∙ told y)) in
     subst (Lists _) (whole x) (lists-refused _ _ 6 [] e (c .refused4 .ensures))
 
--- src/lib.rt:251:26
 enum-known-c-2 : tie.Need-enum-known-c-2 Inv-loop μ-loop
 enum-known-c-2 c = search needs
 
--- src/lib.rt:252:17
 mul-points : tie.Need-mul-points Inv-loop μ-loop
 mul-points c = omega (arith, c .before .before .before .before .before .before .before .before .before .before .loop-test .taken, c .before .before .before .before .before .before .before .before .before .before .before .loop .inv .1 .0, c .before .before .before .before .before .before .before .before .before .before .before .before .before .before .before .before .before .before .if2 .left)
 
--- src/lib.rt:252:17
 array-set-from-points : tie.Need-array-set-from-points Inv-loop μ-loop
 array-set-from-points c = omega (arith, c .before .before .before .before .before .before .before .before .before .before .loop-test .taken, c .before .before .before .before .before .before .before .before .before .before .before .loop .inv .1 .0, c .before .before .before .before .before .before .before .before .before .before .before .before .before .before .before .before .before .before .if2 .left)
 
--- src/lib.rt:253:17
 add-len : tie.Need-add-len Inv-loop μ-loop
 add-len c = omega (arith, c .before .before .before .before .before .before .before .before .before .before .loop-test .taken, c .before .before .before .before .before .before .before .before .before .before .before .loop .inv .1 .0, c .before .before .before .before .before .before .before .before .before .before .before .before .before .before .before .before .before .before .if2 .left)
 
 enum-told-3 : tie.Need-enum-told-3 Inv-loop μ-loop
 enum-told-3 c = search needs
 
--- src/lib.rt:258:9
 add-i : tie.Need-add-i Inv-loop μ-loop
 add-i c = omega (arith, c .before .before .before .before .before .before .before .before .loop-test .taken, c .before .before .before .before .before .before .before .before .before .before .before .before .before .before .before .before .if2 .left)
 
--- src/lib.rt:243:5
 loop-less : tie.Need-loop-less Inv-loop μ-loop
 loop-less c = omega (arith, c .before .before .before .before .before .before .before .before .loop-test .taken)
 
--- src/lib.rt:243:5
 loop-again : tie.Need-loop-again Inv-loop μ-loop
 loop-again c =
     let y = c .before .before .before .before in
@@ -281,7 +242,6 @@ loop-again c =
     ))
     (c .match3 .came)
 
--- src/lib.rt:225:1
 returns-5 : tie.Need-returns-5 Inv-loop μ-loop
 returns-5 c =
     let x = c .before .before in

@@ -1,35 +1,26 @@
+-- `great_circles::intersect_great_circle_arc` meets its contract. Assumes nothing.
 use Rattle.region.specs.declared.Region.{Region}
-use Prim.Native.Nat.{ℕ, _+_, _-_, _≤_, _<_}
+use Prim.Native.Nat.{ℕ, _+_, _-_, _≤_}
 use native.Mathlib.Omega.{arith}
-use mathlib.Core.Path.{_≡_, refl, sym, ap, _∙_}
+use mathlib.Core.Path.{_≡_, sym, ap, _∙_}
 use mathlib.Core.List.{List, [], _∷_}
 use borrow.Author.Needs.{needs}
 use lib.ListN.{length, getD}
-use Rattle.coo3d.specs.declared.UnitVect3.{UnitVect3}
-use Rattle.coo3d.specs.declared.Coo3D.{Coo3D}
 use Rattle.crossings.specs.declared.Crossing.{Crossing}
-use Rattle.crossings.specs.declared.Crossing.the-variants.{None, At}
 use Rattle.crossings.specs.Crossings.{crossingsOf, testedAnswer, testedOf, firstOf}
-use Rattle.domain.specs.Checks.{pointAnswer, pointAt}
+use Rattle.domain.specs.Checks.{pointAnswer}
 use Rattle.domain.proofs.Counts.{count-none, count-many}
-use Rattle.refusal.specs.Answer.{Answer, answered, refused}
+use Rattle.refusal.specs.Answer.{answered}
 use Rattle.region.specs.Edges.{Edge}
 use Rattle.region.specs.View.{viewOf, nowhere, edgesOf}
 use Rattle.region.proofs.Lengths.{unmap}
 use Rattle.region.proofs.Edges.{nothing, edgesLeft, start, turn, done}
 use Rattle.crossings.proofs.First.{tested-refused, first-passed, first-found, first-refused, first-none-left}
-use Rattle.great_circles.specs.Arcs.{westOf, eastOf, arcCrossing}
-use Rattle.great_circles.specs.Queries.{arcFirstOf, arcCrossings, withArc}
+use Rattle.great_circles.specs.Arcs.{arcCrossing}
+use Rattle.great_circles.specs.Queries.{arcFirstOf, arcCrossings}
 use Rattle.great_circles.proofs.Checked.{first-outside, second-outside, both-inside}
 use Rattle.great_circles.proofs.intersect_great_circle_arc.Statement.{statement}
 use Rattle.great_circles.proofs.intersect_great_circle_arc.Tie as tie
-use Rattle.great_circles.proofs.intersect_great_circle_arc.Reads as reads
-use Rattle.great_circles.proofs.intersect_great_circle_arc.Lts as lts
-use Rattle.crossings.proofs.test_finite.Reads as test-finite-reads
-use Rattle.domain.proofs.check_point.Reads as check-point-reads
-use Rattle.great_circles.proofs.arc_crossing.Reads as arc-crossing-reads
-use Rattle.great_circles.proofs.east_of.Reads as east-of-reads
-use Rattle.great_circles.proofs.west_of.Reads as west-of-reads
 
 abbrev Inv-loop : tie.InvT-loop
 Inv-loop r count west east last from₀ i₀ from i =
@@ -80,71 +71,55 @@ module _ (y : tie.After-test-finite Inv-loop μ-loop) where
   left : firstOf (crossingsOf hit (edge ∷ rest)) ≡ firstOf (crossingsOf hit (edgesOf (viewOf region)))
   left = ap (λ (es : List Edge). firstOf (crossingsOf hit es)) (sym (turn region (y .before .before .before .before .before .loop .from) at (long (y .before .before .before .before .before .before .before .before .before .before .before .before .before .before .before .before .before .before .before) few) (long' (y .before .before .before .before .before .before .before .before .before .before .before .before .before .before .before .before .before .before .before) few) (y .before .before .before .before .loop-test .taken))) ∙ y .before .before .before .before .before .loop .inv .1
 
--- src/lib.rt:137:9
 returns : tie.Need-returns Inv-loop μ-loop
 unfolding arcFirstOf
 returns c = sym (count-none _ _ (c .if1 .taken))
 
--- src/lib.rt:140:9
 returns-2 : tie.Need-returns-2 Inv-loop μ-loop
 unfolding arcFirstOf
 returns-2 c = sym (count-many _ _ (c .before .if1 .left) (c .if2 .taken))
 
--- src/lib.rt:142:32
 check-point-requires : tie.Need-check-point-requires Inv-loop μ-loop
 check-point-requires c κs = search needs
 
--- src/lib.rt:142:27
 enum-known-p : tie.Need-enum-known-p Inv-loop μ-loop
 enum-known-p c = search needs
 
--- src/lib.rt:143:37
 enum-told : tie.Need-enum-told Inv-loop μ-loop
 enum-told c = search needs
 
--- src/lib.rt:143:9
 returns-3 : tie.Need-returns-3 Inv-loop μ-loop
 unfolding arcFirstOf
 returns-3 c = sym (first-outside _ _ _ _ (c .before .before .before .before .if1 .left) (c .before .before .before .if2 .left) _ _ (ap pointAnswer (sym (c .enum-told .given .1)) ∙ c .before .before .check-point .ensures))
 
--- src/lib.rt:145:32
 check-point-requires-2 : tie.Need-check-point-requires-2 Inv-loop μ-loop
 check-point-requires-2 c κs = search needs
 
--- src/lib.rt:145:27
 enum-known-q : tie.Need-enum-known-q Inv-loop μ-loop
 enum-known-q c = search needs
 
--- src/lib.rt:146:37
 enum-told-2 : tie.Need-enum-told-2 Inv-loop μ-loop
 enum-told-2 c = search needs
 
--- src/lib.rt:146:9
 returns-4 : tie.Need-returns-4 Inv-loop μ-loop
 unfolding arcFirstOf
 returns-4 c = sym (second-outside _ _ _ _ (c .before .before .before .before .before .before .before .before .if1 .left) (c .before .before .before .before .before .before .before .if2 .left) _ (ap pointAnswer (sym (c .before .before .before .before .p .given .1)) ∙ c .before .before .before .before .before .before .check-point .ensures) _ _ (ap pointAnswer (sym (c .enum-told2 .given .1)) ∙ c .before .before .check-point2 .ensures))
 
--- src/lib.rt:148:9
 west-of-requires : tie.Need-west-of-requires Inv-loop μ-loop
 west-of-requires c κs = search needs
 
--- src/lib.rt:149:9
 east-of-requires : tie.Need-east-of-requires Inv-loop μ-loop
 east-of-requires c κs = search needs
 
--- src/lib.rt:150:16
 sub-last : tie.Need-sub-last Inv-loop μ-loop
 sub-last c = search needs
 
--- src/lib.rt:151:20
 mul-from : tie.Need-mul-from Inv-loop μ-loop
 mul-from c = search needs
 
--- src/lib.rt:151:20
 element-copy-out-from : tie.Need-element-copy-out-from Inv-loop μ-loop
 element-copy-out-from c = search needs
 
--- src/lib.rt:153:5
 loop-holds : tie.Need-loop-holds Inv-loop μ-loop
 loop-holds c =
     let s = c .before .before .before .before .before .before .before .before .before .before .before .before .before in
@@ -152,49 +127,38 @@ loop-holds c =
     let e = start (s .args .t1) (omega (arith, c .before .before .before .before .before .before .before .before .before .before .before .before .if1 .left)) (long s few) in
     (omega arith, ap (λ (es : List Edge). firstOf (crossingsOf (arcCrossing (c .before .before .west-of .result) (c .before .east-of .result)) es)) (sym e))
 
--- src/lib.rt:154:18
 mul-to : tie.Need-mul-to Inv-loop μ-loop
 mul-to c = search needs
 
--- src/lib.rt:154:18
 element-copy-out-to : tie.Need-element-copy-out-to Inv-loop μ-loop
 element-copy-out-to c = search needs
 
--- src/lib.rt:155:17
 mul-n : tie.Need-mul-n Inv-loop μ-loop
 mul-n c = search needs
 
--- src/lib.rt:155:17
 element-copy-out-n : tie.Need-element-copy-out-n Inv-loop μ-loop
 element-copy-out-n c = search needs
 
--- src/lib.rt:156:58
 arc-crossing-requires : tie.Need-arc-crossing-requires Inv-loop μ-loop
 arc-crossing-requires c κs = search needs
 
--- src/lib.rt:156:35
 test-finite-requires : tie.Need-test-finite-requires Inv-loop μ-loop
 test-finite-requires c κs = search needs
 
--- src/lib.rt:156:30
 enum-known-c : tie.Need-enum-known-c Inv-loop μ-loop
 enum-known-c c = search needs
 
--- src/lib.rt:158:41
 enum-told-3 : tie.Need-enum-told-3 Inv-loop μ-loop
 enum-told-3 c = search needs
 
--- src/lib.rt:158:13
 returns-5 : tie.Need-returns-5 Inv-loop μ-loop
 returns-5 c =
     let y = c .before .before in
     sym (first-refused (hit y) (edge y) (rest y) 6 [] (tested-refused (hit y (edge y)) _ _ (ap testedAnswer (sym (c .enum-told3 .given .1)) ∙ told y))) ∙ left y ∙ whole (y .before .before .before .before .before .before)
 
--- src/lib.rt:161:26
 enum-known-c-2 : tie.Need-enum-known-c-2 Inv-loop μ-loop
 enum-known-c-2 c = search needs
 
--- src/lib.rt:162:17
 returns-6 : tie.Need-returns-6 Inv-loop μ-loop
 returns-6 c =
     let y = c .before .before .before .before .before .before in
@@ -204,22 +168,18 @@ returns-6 c =
 enum-told-4 : tie.Need-enum-told-4 Inv-loop μ-loop
 enum-told-4 c = search needs
 
--- src/lib.rt:167:9
 add-i : tie.Need-add-i Inv-loop μ-loop
 add-i c = omega (arith, c .before .before .before .before .before .before .before .before .before .loop-test .taken, c .before .before .before .before .before .before .before .before .before .before .before .before .before .before .before .before .before .before .before .before .before .before .if2 .left)
 
--- src/lib.rt:153:5
 loop-less : tie.Need-loop-less Inv-loop μ-loop
 loop-less c = omega (arith, c .before .before .before .before .before .before .before .before .before .loop-test .taken)
 
--- src/lib.rt:153:5
 loop-again : tie.Need-loop-again Inv-loop μ-loop
 loop-again c =
     let y = c .before .before .before .before .before in
     let e = sym (told y) ∙ ap testedAnswer (c .before .before .before .c .given .1) ∙ ap answered (c .enum-told4 .given .1) in
     (omega (arith, y .before .before .before .before .loop-test .taken), sym (first-passed (hit y) (edge y) (rest y) e) ∙ left y)
 
--- src/lib.rt:132:1
 returns-7 : tie.Need-returns-7 Inv-loop μ-loop
 returns-7 c =
     let x = c .before .before in

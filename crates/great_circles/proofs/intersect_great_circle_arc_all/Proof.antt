@@ -1,4 +1,5 @@
-use Prim.Native.Nat.{ℕ, _+_, _-_, _≤_, _<_}
+-- `great_circles::intersect_great_circle_arc_all` meets its contract. Assumes nothing.
+use Prim.Native.Nat.{ℕ, _+_, _-_, _≤_}
 use native.Mathlib.Omega.{arith}
 use mathlib.Core.Path.{_≡_, refl, sym, ap, _∙_}
 use mathlib.Core.List.{List, [], _∷_}
@@ -6,13 +7,11 @@ use borrow.Author.Needs.{needs}
 use lib.ListN.{length, getD, length-set}
 use mathlib.Core.Logic.{⊎-elim}
 use Rattle.coo3d.specs.declared.UnitVect3.{UnitVect3}
-use Rattle.coo3d.specs.declared.Coo3D.{Coo3D}
 use Rattle.crossings.specs.declared.Crossing.{Crossing}
-use Rattle.crossings.specs.declared.Crossing.the-variants.{None, At}
-use Rattle.crossings.specs.Crossings.{crossingsOf, testedAnswer, testedOf, firstOf}
-use Rattle.domain.specs.Checks.{pointAnswer, pointAt}
+use Rattle.crossings.specs.Crossings.{crossingsOf, testedAnswer, testedOf}
+use Rattle.domain.specs.Checks.{pointAnswer}
 use Rattle.domain.proofs.Counts.{count-none, count-many}
-use Rattle.refusal.specs.Answer.{Answer, answered, refused}
+use Rattle.refusal.specs.Answer.{answered, refused}
 use Rattle.region.specs.Edges.{Edge}
 use Rattle.region.specs.View.{viewOf, nowhere, edgesOf}
 use Rattle.region.proofs.Lengths.{unmap}
@@ -29,15 +28,6 @@ use Rattle.great_circles.specs.Queries.{arcAllOf, arcCrossings}
 use Rattle.great_circles.proofs.Checked.{first-outside, second-outside, both-inside, by-longitude}
 use Rattle.great_circles.proofs.intersect_great_circle_arc_all.Statement.{statement}
 use Rattle.great_circles.proofs.intersect_great_circle_arc_all.Tie as tie
-use Rattle.great_circles.proofs.intersect_great_circle_arc_all.Reads as reads
-use Rattle.great_circles.proofs.intersect_great_circle_arc_all.Lts as lts
-use Rattle.crossings.proofs.no_points.Reads as no-points-reads
-use Rattle.crossings.proofs.refused.Reads as refused-reads
-use Rattle.crossings.proofs.test_finite.Reads as test-finite-reads
-use Rattle.domain.proofs.check_point.Reads as check-point-reads
-use Rattle.great_circles.proofs.arc_crossing.Reads as arc-crossing-reads
-use Rattle.great_circles.proofs.east_of.Reads as east-of-reads
-use Rattle.great_circles.proofs.west_of.Reads as west-of-reads
 
 abbrev Inv-loop : tie.InvT-loop
 Inv-loop r count west east points₀ len₀ last from₀ i₀ points len from i =
@@ -109,91 +99,70 @@ module _ (y : tie.After-test-finite Inv-loop μ-loop) where
       ap (fill (hit here) (y .before .before .before .before .before .loop .points) (y .before .before .before .before .before .loop .len)) (sym (turn (region here) (y .before .before .before .before .before .loop .from) at (long (start-of here) (few here)) (long' (start-of here) (few here)) (y .before .before .before .before .loop-test .taken)))
       ∙ y .before .before .before .before .before .loop .inv .1 .1 .1
 
--- src/lib.rt:177:9
 refused-requires : tie.Need-refused-requires Inv-loop μ-loop
 refused-requires c κs = search needs
 
--- src/lib.rt:177:9
 returns : tie.Need-returns Inv-loop μ-loop
 unfolding arcAllOf
 returns c = subst (Lists _) (sym (count-none _ _ (c .before .if1 .taken))) (c .refused .ensures)
 
--- src/lib.rt:180:9
 refused-requires-2 : tie.Need-refused-requires-2 Inv-loop μ-loop
 refused-requires-2 c κs = search needs
 
--- src/lib.rt:180:9
 returns-2 : tie.Need-returns-2 Inv-loop μ-loop
 unfolding arcAllOf
 returns-2 c = subst (Lists _) (sym (count-many _ _ (c .before .before .if1 .left) (c .before .if2 .taken))) (c .refused2 .ensures)
 
--- src/lib.rt:182:32
 check-point-requires : tie.Need-check-point-requires Inv-loop μ-loop
 check-point-requires c κs = search needs
 
--- src/lib.rt:182:27
 enum-known-p : tie.Need-enum-known-p Inv-loop μ-loop
 enum-known-p c = search needs
 
--- src/lib.rt:183:35
 enum-told : tie.Need-enum-told Inv-loop μ-loop
 enum-told c = search needs
 
--- src/lib.rt:183:9
 refused-requires-3 : tie.Need-refused-requires-3 Inv-loop μ-loop
 refused-requires-3 c κs = search needs
 
--- src/lib.rt:183:9
 returns-3 : tie.Need-returns-3 Inv-loop μ-loop
 unfolding arcAllOf
 returns-3 c = subst (Lists _) (sym (first-outside _ _ _ _ (c .before .before .before .before .before .if1 .left) (c .before .before .before .before .if2 .left) _ _ (ap pointAnswer (sym (c .before .enum-told .given .1)) ∙ c .before .before .before .check-point .ensures))) (c .refused3 .ensures)
 
--- src/lib.rt:185:32
 check-point-requires-2 : tie.Need-check-point-requires-2 Inv-loop μ-loop
 check-point-requires-2 c κs = search needs
 
--- src/lib.rt:185:27
 enum-known-q : tie.Need-enum-known-q Inv-loop μ-loop
 enum-known-q c = search needs
 
--- src/lib.rt:186:35
 enum-told-2 : tie.Need-enum-told-2 Inv-loop μ-loop
 enum-told-2 c = search needs
 
--- src/lib.rt:186:9
 refused-requires-4 : tie.Need-refused-requires-4 Inv-loop μ-loop
 refused-requires-4 c κs = search needs
 
--- src/lib.rt:186:9
 returns-4 : tie.Need-returns-4 Inv-loop μ-loop
 unfolding arcAllOf
 returns-4 c = subst (Lists _) (sym (second-outside _ _ _ _ (c .before .before .before .before .before .before .before .before .before .if1 .left) (c .before .before .before .before .before .before .before .before .if2 .left) _ (ap pointAnswer (sym (c .before .before .before .before .before .p .given .1)) ∙ c .before .before .before .before .before .before .before .check-point .ensures) _ _ (ap pointAnswer (sym (c .before .enum-told2 .given .1)) ∙ c .before .before .before .check-point2 .ensures))) (c .refused4 .ensures)
 
--- src/lib.rt:188:9
 west-of-requires : tie.Need-west-of-requires Inv-loop μ-loop
 west-of-requires c κs = search needs
 
--- src/lib.rt:189:9
 east-of-requires : tie.Need-east-of-requires Inv-loop μ-loop
 east-of-requires c κs = search needs
 
--- src/lib.rt:190:22
 no-points-requires : tie.Need-no-points-requires Inv-loop μ-loop
 no-points-requires c κs = search needs
 
--- src/lib.rt:192:16
 sub-last : tie.Need-sub-last Inv-loop μ-loop
 sub-last c = search needs
 
--- src/lib.rt:193:20
 mul-from : tie.Need-mul-from Inv-loop μ-loop
 mul-from c = search needs
 
--- src/lib.rt:193:20
 element-copy-out-from : tie.Need-element-copy-out-from Inv-loop μ-loop
 element-copy-out-from c = search needs
 
--- src/lib.rt:195:5
 loop-holds : tie.Need-loop-holds Inv-loop μ-loop
 loop-holds c =
     let e = start (region c) (omega (arith, c .before .before .before .before .before .before .before .before .before .before .before .before .before .if1 .left)) (long (start-of c) (few c)) in (
@@ -207,43 +176,33 @@ loop-holds c =
       ),
     )
 
--- src/lib.rt:196:18
 mul-to : tie.Need-mul-to Inv-loop μ-loop
 mul-to c = search needs
 
--- src/lib.rt:196:18
 element-copy-out-to : tie.Need-element-copy-out-to Inv-loop μ-loop
 element-copy-out-to c = search needs
 
--- src/lib.rt:197:17
 mul-n : tie.Need-mul-n Inv-loop μ-loop
 mul-n c = search needs
 
--- src/lib.rt:197:17
 element-copy-out-n : tie.Need-element-copy-out-n Inv-loop μ-loop
 element-copy-out-n c = search needs
 
--- src/lib.rt:198:58
 arc-crossing-requires : tie.Need-arc-crossing-requires Inv-loop μ-loop
 arc-crossing-requires c κs = search needs
 
--- src/lib.rt:198:35
 test-finite-requires : tie.Need-test-finite-requires Inv-loop μ-loop
 test-finite-requires c κs = search needs
 
--- src/lib.rt:198:30
 enum-known-c : tie.Need-enum-known-c Inv-loop μ-loop
 enum-known-c c = search needs
 
--- src/lib.rt:200:39
 enum-told-3 : tie.Need-enum-told-3 Inv-loop μ-loop
 enum-told-3 c = search needs
 
--- src/lib.rt:200:13
 refused-requires-5 : tie.Need-refused-requires-5 Inv-loop μ-loop
 refused-requires-5 c κs = search needs
 
--- src/lib.rt:200:13
 returns-5 : tie.Need-returns-5 Inv-loop μ-loop
 returns-5 c =
     let y = c .before .before .before in
@@ -251,34 +210,27 @@ returns-5 c =
     let e = sym (filled x) ∙ sym (left y) ∙ fill-refused (hit x) _ _ (edge y) (rest y) 6 [] (tested-refused (hit x (edge y)) _ _ (ap testedAnswer (sym (c .before .enum-told3 .given .1)) ∙ told y)) in
     subst (Lists _) (whole x) (lists-refused _ _ 6 [] e (c .refused5 .ensures))
 
--- src/lib.rt:203:26
 enum-known-c-2 : tie.Need-enum-known-c-2 Inv-loop μ-loop
 enum-known-c-2 c = search needs
 
--- src/lib.rt:204:17
 mul-points : tie.Need-mul-points Inv-loop μ-loop
 mul-points c = omega (arith, c .before .before .before .before .before .before .before .before .before .before .loop-test .taken, c .before .before .before .before .before .before .before .before .before .before .before .loop .inv .1 .0, c .before .before .before .before .before .before .before .before .before .before .before .before .before .before .before .before .before .before .before .before .before .before .before .before .if2 .left)
 
--- src/lib.rt:204:17
 array-set-from-points : tie.Need-array-set-from-points Inv-loop μ-loop
 array-set-from-points c = omega (arith, c .before .before .before .before .before .before .before .before .before .before .loop-test .taken, c .before .before .before .before .before .before .before .before .before .before .before .loop .inv .1 .0, c .before .before .before .before .before .before .before .before .before .before .before .before .before .before .before .before .before .before .before .before .before .before .before .before .if2 .left)
 
--- src/lib.rt:205:17
 add-len : tie.Need-add-len Inv-loop μ-loop
 add-len c = omega (arith, c .before .before .before .before .before .before .before .before .before .before .loop-test .taken, c .before .before .before .before .before .before .before .before .before .before .before .loop .inv .1 .0, c .before .before .before .before .before .before .before .before .before .before .before .before .before .before .before .before .before .before .before .before .before .before .before .before .if2 .left)
 
 enum-told-4 : tie.Need-enum-told-4 Inv-loop μ-loop
 enum-told-4 c = search needs
 
--- src/lib.rt:210:9
 add-i : tie.Need-add-i Inv-loop μ-loop
 add-i c = omega (arith, c .before .before .before .before .before .before .before .before .loop-test .taken, c .before .before .before .before .before .before .before .before .before .before .before .before .before .before .before .before .before .before .before .before .before .before .if2 .left)
 
--- src/lib.rt:195:5
 loop-less : tie.Need-loop-less Inv-loop μ-loop
 loop-less c = omega (arith, c .before .before .before .before .before .before .before .before .loop-test .taken)
 
--- src/lib.rt:195:5
 loop-again : tie.Need-loop-again Inv-loop μ-loop
 loop-again c =
     let y = c .before .before .before .before in
@@ -309,7 +261,6 @@ loop-again c =
     ))
     (c .match4 .came)
 
--- src/lib.rt:172:1
 returns-6 : tie.Need-returns-6 Inv-loop μ-loop
 returns-6 c =
     let x = c .before .before in

@@ -1,22 +1,16 @@
+-- `great_circles::is_intersecting_great_circle_arc` meets its contract. Assumes nothing.
 use mathlib.Core.Path.{ap, _∙_}
 use Rattle.crossings.specs.Crossings.{intersectingOf}
 use borrow.Author.Needs.{needs}
 use Rattle.great_circles.proofs.is_intersecting_great_circle_arc.Statement.{statement}
 use Rattle.great_circles.proofs.is_intersecting_great_circle_arc.Tie as tie
-use Rattle.great_circles.proofs.is_intersecting_great_circle_arc.Reads as reads
-use Rattle.great_circles.proofs.is_intersecting_great_circle_arc.Lts as lts
-use Rattle.crossings.proofs.is_intersecting.Reads as is-intersecting-reads
-use Rattle.great_circles.proofs.intersect_great_circle_arc.Reads as intersect-great-circle-arc-reads
 
--- src/lib.rt:221:32
 intersect-great-circle-arc-requires : tie.Need-intersect-great-circle-arc-requires
 intersect-great-circle-arc-requires c κs = search needs
 
--- src/lib.rt:221:5
 is-intersecting-requires : tie.Need-is-intersecting-requires
 is-intersecting-requires c κs = search needs
 
--- src/lib.rt:218:1
 returns : tie.Need-returns
 returns c = c .is-intersecting .ensures ∙ ap intersectingOf (c .before .intersect-great-circle-arc .ensures)
 

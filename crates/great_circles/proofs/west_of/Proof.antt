@@ -1,15 +1,12 @@
+-- `great_circles::west_of` meets its contract. Assumes nothing.
 use Rattle.great_circles.specs.Arcs.{westOf}
 use Rattle.great_circles.proofs.west_of.Statement.{statement}
 use Rattle.great_circles.proofs.west_of.Tie as tie
-use Rattle.great_circles.proofs.west_of.Reads as reads
-use Rattle.great_circles.proofs.west_of.Lts as lts
 
--- src/lib.rt:25:1
 returns : tie.Need-returns
 unfolding westOf
 returns c = simp (c .if1 .taken)
 
--- src/lib.rt:25:1
 returns-2 : tie.Need-returns-2
 unfolding westOf
 returns-2 c = simp (c .if1 .left)

@@ -1,16 +1,13 @@
-use Prim.Native.Nat.{ℕ, _-_, _≤_, _<_}
+-- `region::basic` meets its contract. Assumes nothing.
+use Prim.Native.Nat.{_-_, _≤_}
 use native.Mathlib.Omega.{arith}
-use mathlib.Core.Path.{_≡_, refl, sym, ap, _∙_}
+use mathlib.Core.Path.{_≡_, sym, _∙_}
 use borrow.Author.Needs.{needs}
 use lib.ListN.{length, take, drop}
 use Rattle.region.specs.Poles.{basicFrom, basicOf}
 use Rattle.region.proofs.Corners.{basic-start, basic-turn, basic-done}
 use Rattle.region.proofs.basic.Statement.{statement}
 use Rattle.region.proofs.basic.Tie as tie
-use Rattle.region.proofs.basic.Reads as reads
-use Rattle.region.proofs.basic.Lts as lts
-use Rattle.float.proofs.abs.Reads as abs-reads
-use Rattle.region.proofs.add_step.Reads as add-step-reads
 
 abbrev Inv-loop : tie.InvT-loop
 Inv-loop count vertices last from₀ sum-delta-lon₀ gravity-center-z₀ i₀ from sum-delta-lon gravity-center-z i =
@@ -22,54 +19,42 @@ abbrev μ-loop : tie.MeasureT-loop
 long : (c : tie.Start Inv-loop μ-loop) → c .args .count ≤ length (c .args .t1)
 long c = let e : length (c .args .t1) ≡ 64 = search needs in omega arith
 
--- src/lib.rt:111:16
 sub-last : tie.Need-sub-last Inv-loop μ-loop
 sub-last c = search needs
 
--- src/lib.rt:112:20
 mul-from : tie.Need-mul-from Inv-loop μ-loop
 mul-from c = search needs
 
--- src/lib.rt:112:20
 array-copy-out-from : tie.Need-array-copy-out-from Inv-loop μ-loop
 array-copy-out-from c = search needs
 
--- src/lib.rt:116:5
 loop-holds : tie.Need-loop-holds Inv-loop μ-loop
 loop-holds c = (search needs, basic-start _ _ _ (search needs) (long (c .before)))
 
--- src/lib.rt:117:18
 mul-to : tie.Need-mul-to Inv-loop μ-loop
 mul-to c = search needs
 
--- src/lib.rt:117:18
 array-copy-out-to : tie.Need-array-copy-out-to Inv-loop μ-loop
 array-copy-out-to c = search needs
 
--- src/lib.rt:118:9
 add-step-requires : tie.Need-add-step-requires Inv-loop μ-loop
 add-step-requires c κs = search needs
 
--- src/lib.rt:121:9
 add-i : tie.Need-add-i Inv-loop μ-loop
 add-i c = search needs
 
--- src/lib.rt:116:5
 loop-less : tie.Need-loop-less Inv-loop μ-loop
 loop-less c = search needs
 
--- src/lib.rt:116:5
 loop-again : tie.Need-loop-again Inv-loop μ-loop
 loop-again c =
     let s = c .before .before .before .before .before .before .before .before in
     let l = c .before .before .before .before .before .before .loop in
     (search needs, rw (c .before .add-step .ensures) (sym (basic-turn _ _ (l .sum-delta-lon) (l .gravity-center-z) (l .from) (l .i) _ (long s) (search needs)) ∙ l .inv .1))
 
--- src/lib.rt:123:6
 abs-requires : tie.Need-abs-requires Inv-loop μ-loop
 abs-requires c κs = search needs
 
--- src/lib.rt:107:1
 returns : tie.Need-returns Inv-loop μ-loop
 returns c =
     let l = c .before .before .loop in

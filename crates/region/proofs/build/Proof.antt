@@ -1,6 +1,7 @@
+-- `region::build` meets its contract. Assumes nothing.
 use Prim.Native.Nat.{ℕ, _≤_, _<_}
 use native.Mathlib.Omega.{arith}
-use mathlib.Core.Path.{_≡_, refl, sym, ap, _∙_}
+use mathlib.Core.Path.{_≡_, sym, ap, _∙_}
 use mathlib.Core.Bool.{Bool, false}
 use mathlib.Core.List.{List}
 use lib.ListN.{length, take}
@@ -12,19 +13,12 @@ use Rattle.domain.proofs.Points.{points-count}
 use Rattle.refusal.specs.Answer.{Answer, answered, refused, outcomeOf, andThen}
 use Rattle.refusal.specs.declared.Outcome.{Outcome}
 use Rattle.region.specs.declared.ContainsSouthPoleMethod.{ContainsSouthPoleMethod}
-use Rattle.region.specs.View.{View, viewOf, withFlag, made, normalsOf}
+use Rattle.region.specs.View.{View, withFlag, made, normalsOf}
 use Rattle.region.specs.Region.{flagOf, buildOf}
 use Rattle.region.proofs.Lengths.{unmap}
 use borrow.Author.Needs.{needs}
 use Rattle.region.proofs.build.Statement.{statement}
 use Rattle.region.proofs.build.Tie as tie
-use Rattle.region.proofs.build.Reads as reads
-use Rattle.region.proofs.build.Lts as lts
-use Rattle.domain.proofs.check_points.Reads as check-points-reads
-use Rattle.region.proofs.compute_cross_products.Reads as compute-cross-products-reads
-use Rattle.region.proofs.contains_south_pole.Reads as contains-south-pole-reads
-use Rattle.region.proofs.flagged.Reads as flagged-reads
-use Rattle.region.proofs.refused.Reads as refused-reads
 
 passed-on : (l : List Coo3D) (n : ℕ) (rule : ContainsSouthPoleMethod) (k : ℕ) (vs : List ℕ) → refused k vs ≡ pointsOf l n → refused k vs ≡ buildOf l n rule
 unfolding buildOf
@@ -45,42 +39,33 @@ done c = ap (λ (o : Outcome). outcomeOf o (take (c .before .before .before .bef
 range : (c : tie.After-enum-told) → (0 < c .before .before .before .before .args .count) × (c .before .before .before .before .args .count ≤ 64)
 range c = points-count _ _ _ (sym (done c))
 
--- src/lib.rt:259:9
 check-points-requires : tie.Need-check-points-requires
 check-points-requires c κs = search needs
 
--- src/lib.rt:263:26
 enum-known-outcome : tie.Need-enum-known-outcome
 enum-known-outcome c = search needs
 
--- src/lib.rt:263:36
 refused-requires : tie.Need-refused-requires
 refused-requires c κs = search needs
 
--- src/lib.rt:265:17
 enum-told : tie.Need-enum-told
 enum-told c = search needs
 
--- src/lib.rt:265:17
 compute-cross-products-requires : tie.Need-compute-cross-products-requires
 compute-cross-products-requires c κs = range c
 
--- src/lib.rt:272:29
 contains-south-pole-requires : tie.Need-contains-south-pole-requires
 contains-south-pole-requires c κs = search needs
 
--- src/lib.rt:272:13
 flagged-requires : tie.Need-flagged-requires
 flagged-requires c κs = search needs
 
--- src/lib.rt:256:1
 returns : tie.Need-returns
 returns c =
     let a = c .before .before .before .before .before .before .args in
     let r = c .before .before .before .before .before .check-points in
     c .refused .ensures ∙ passed-on (a .points) (a .count) (a .method) _ _ (ap (λ (o : Outcome). outcomeOf o (take (a .count) (r .result .points))) (sym (c .before .before .outcome .given .1)) ∙ r .ensures)
 
--- src/lib.rt:256:1
 returns-2 : tie.Need-returns-2
 returns-2 c =
     let s = c .before .before .before in

@@ -1,6 +1,7 @@
-use Prim.Native.Nat.{ℕ, _-_, _≤_, _<_}
+-- `region::compute_cross_products` meets its contract. Assumes nothing.
+use Prim.Native.Nat.{_-_, _≤_}
 use native.Mathlib.Omega.{arith}
-use mathlib.Core.Path.{_≡_, refl, sym, ap, _∙_}
+use mathlib.Core.Path.{_≡_, refl, sym, _∙_}
 use mathlib.Core.List.{_++_}
 use borrow.Author.Needs.{needs}
 use lib.ListN.{length, take, drop, length-set}
@@ -8,9 +9,6 @@ use Rattle.region.specs.View.{normalsFrom, normalsOf}
 use Rattle.region.proofs.Corners.{normals-start, normals-turn, normals-done}
 use Rattle.region.proofs.compute_cross_products.Statement.{statement}
 use Rattle.region.proofs.compute_cross_products.Tie as tie
-use Rattle.region.proofs.compute_cross_products.Reads as reads
-use Rattle.region.proofs.compute_cross_products.Lts as lts
-use Rattle.region.proofs.edge_normal.Reads as edge-normal-reads
 
 abbrev Inv-loop : tie.InvT-loop
 Inv-loop count vertices out₀ last from₀ i₀ out from i =
@@ -22,51 +20,39 @@ abbrev μ-loop : tie.MeasureT-loop
 long : (c : tie.Start Inv-loop μ-loop) → c .args .count ≤ length (c .args .t1)
 long c = let e : length (c .args .t1) ≡ 64 = search needs in omega arith
 
--- src/lib.rt:79:16
 sub-last : tie.Need-sub-last Inv-loop μ-loop
 sub-last c = search needs
 
--- src/lib.rt:80:20
 mul-from : tie.Need-mul-from Inv-loop μ-loop
 mul-from c = search needs
 
--- src/lib.rt:80:20
 array-copy-out-from : tie.Need-array-copy-out-from Inv-loop μ-loop
 array-copy-out-from c = search needs
 
--- src/lib.rt:82:5
 loop-holds : tie.Need-loop-holds Inv-loop μ-loop
 loop-holds c = (search needs, (refl, normals-start _ _ _ (search needs) (long (c .before))))
 
--- src/lib.rt:83:18
 mul-to : tie.Need-mul-to Inv-loop μ-loop
 mul-to c = search needs
 
--- src/lib.rt:83:18
 array-copy-out-to : tie.Need-array-copy-out-to Inv-loop μ-loop
 array-copy-out-to c = search needs
 
--- src/lib.rt:84:13
 edge-normal-requires : tie.Need-edge-normal-requires Inv-loop μ-loop
 edge-normal-requires c κs = search needs
 
--- src/lib.rt:85:9
 mul-out : tie.Need-mul-out Inv-loop μ-loop
 mul-out c = search needs
 
--- src/lib.rt:85:9
 array-set-from-out : tie.Need-array-set-from-out Inv-loop μ-loop
 array-set-from-out c = search needs
 
--- src/lib.rt:87:9
 add-i : tie.Need-add-i Inv-loop μ-loop
 add-i c = search needs
 
--- src/lib.rt:82:5
 loop-less : tie.Need-loop-less Inv-loop μ-loop
 loop-less c = search needs
 
--- src/lib.rt:82:5
 loop-again : tie.Need-loop-again Inv-loop μ-loop
 loop-again c =
     let s = c .before .before .before .before .before in
@@ -78,7 +64,6 @@ loop-again c =
       ),
     )
 
--- src/lib.rt:69:1
 returns : tie.Need-returns Inv-loop μ-loop
 returns c =
     let l = c .before .loop in

@@ -1,10 +1,11 @@
-use mathlib.Core.Path.{_≡_, refl, sym, ap, _∙_}
-use mathlib.Core.Bool.{Bool, true, false}
+-- `region::contains` meets its contract. Assumes nothing.
+use mathlib.Core.Path.{_≡_, sym, ap, _∙_}
+use mathlib.Core.Bool.{Bool}
 use Rattle.coo3d.specs.declared.Coo3D.{Coo3D}
 use Rattle.domain.specs.Checks.{pointAnswer, pointAt}
 use Rattle.domain.proofs.Points.{point-refused}
-use Rattle.refusal.specs.Answer.{Answer, answered, refused, andThen}
-use Prim.Native.Nat.{ℕ, _≤_, _<_}
+use Rattle.refusal.specs.Answer.{answered, refused}
+use Prim.Native.Nat.{ℕ, _≤_}
 use mathlib.Core.List.{List, [], _∷_}
 use borrow.Author.Needs.{needs}
 use Rattle.domain.proofs.Counts.{count-none, count-many, count-few}
@@ -13,11 +14,6 @@ use Rattle.region.specs.Region.{containsOf}
 use borrow.Author.Needs.{needs}
 use Rattle.region.proofs.contains.Statement.{statement}
 use Rattle.region.proofs.contains.Tie as tie
-use Rattle.region.proofs.contains.Reads as reads
-use Rattle.region.proofs.contains.Lts as lts
-use Rattle.domain.proofs.check_point.Reads as check-point-reads
-use Rattle.refusal.proofs.decide.Reads as decide-reads
-use Rattle.region.proofs.odd_num_intersect_going_south.Reads as odd-num-intersect-going-south-reads
 
 module _ (v : View) (p : Coo3D) (some : v .count ≡ 0 → ⊥) (few : v .count ≤ 64) where
   outside : (n : ℕ) (vs : List ℕ) → refused n vs ≡ pointAt 0 p → refused 1 (0 ∷ []) ≡ containsOf v p
@@ -28,41 +24,32 @@ module _ (v : View) (p : Coo3D) (some : v .count ≡ 0 → ⊥) (few : v .count 
   unfolding containsOf contained
   inside q odd e o = rw (count-few (v .count) _ some few, sym e, o)
 
--- src/lib.rt:190:9
 returns : tie.Need-returns
 unfolding containsOf
 returns c = sym (count-none _ _ (c .if1 .taken))
 
--- src/lib.rt:193:9
 returns-2 : tie.Need-returns-2
 unfolding containsOf
 returns-2 c = sym (count-many _ _ (c .before .if1 .left) (c .if2 .taken))
 
--- src/lib.rt:195:32
 check-point-requires : tie.Need-check-point-requires
 check-point-requires c κs = search needs
 
--- src/lib.rt:195:27
 enum-known-p : tie.Need-enum-known-p
 enum-known-p c = search needs
 
--- src/lib.rt:196:34
 enum-told : tie.Need-enum-told
 enum-told c = search needs
 
--- src/lib.rt:196:9
 returns-3 : tie.Need-returns-3
 returns-3 c = outside _ _ (c .before .before .before .before .if1 .left) (c .before .before .before .if2 .left) _ _ (ap pointAnswer (sym (c .enum-told .given .1)) ∙ c .before .before .check-point .ensures)
 
--- src/lib.rt:198:46
 odd-num-intersect-going-south-requires : tie.Need-odd-num-intersect-going-south-requires
 odd-num-intersect-going-south-requires c κs = search needs
 
--- src/lib.rt:198:5
 decide-requires : tie.Need-decide-requires
 decide-requires c κs = search needs
 
--- src/lib.rt:185:1
 returns-4 : tie.Need-returns-4
 returns-4 c = c .decide .ensures ∙ inside _ _ (c .before .before .before .before .before .before .before .before .if1 .left) (c .before .before .before .before .before .before .before .if2 .left) _ _ (ap pointAnswer (sym (c .before .before .before .before .p .given .1)) ∙ c .before .before .before .before .before .before .check-point .ensures) (c .before .before .odd-num-intersect-going-south .ensures)
 

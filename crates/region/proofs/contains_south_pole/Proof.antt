@@ -1,4 +1,5 @@
-use mathlib.Core.Path.{_≡_, sym, ap, _∙_}
+-- `region::contains_south_pole` meets its contract. Assumes nothing.
+use mathlib.Core.Path.{sym, ap, _∙_}
 use mathlib.Core.Bool.{Bool, not}
 use Rattle.domain.proofs.Counts.{count-none, count-many}
 use Rattle.refusal.specs.Answer.{answered}
@@ -7,91 +8,66 @@ use Rattle.region.proofs.Flags.{flag-default, flag-complement, flag-set
 use borrow.Author.Needs.{needs}
 use Rattle.region.proofs.contains_south_pole.Statement.{statement}
 use Rattle.region.proofs.contains_south_pole.Tie as tie
-use Rattle.region.proofs.contains_south_pole.Reads as reads
-use Rattle.region.proofs.contains_south_pole.Lts as lts
-use Rattle.refusal.proofs.decide.Reads as decide-reads
-use Rattle.region.proofs.basic.Reads as basic-reads
-use Rattle.region.proofs.flag_for_control_point.Reads as flag-for-control-point-reads
 
--- src/lib.rt:164:9
 returns : tie.Need-returns
 unfolding flagOf
 returns c = sym (count-none _ _ (c .if1 .taken))
 
--- src/lib.rt:167:9
 returns-2 : tie.Need-returns-2
 unfolding flagOf
 returns-2 c = sym (count-many _ _ (c .before .if1 .left) (c .if2 .taken))
 
--- src/lib.rt:171:17
 enum-told : tie.Need-enum-told
 enum-told c = search needs
 
--- src/lib.rt:172:29
 basic-requires : tie.Need-basic-requires
 basic-requires c κs = search needs
 
--- src/lib.rt:172:13
 decide-requires : tie.Need-decide-requires
 decide-requires c κs = search needs
 
--- src/lib.rt:175:17
 enum-told-2 : tie.Need-enum-told-2
 enum-told-2 c = search needs
 
--- src/lib.rt:176:30
 basic-requires-2 : tie.Need-basic-requires-2
 basic-requires-2 c κs = search needs
 
--- src/lib.rt:176:13
 decide-requires-2 : tie.Need-decide-requires-2
 decide-requires-2 c κs = search needs
 
--- src/lib.rt:178:55
 enum-told-3 : tie.Need-enum-told-3
 enum-told-3 c = search needs
 
--- src/lib.rt:179:60
 enum-told-4 : tie.Need-enum-told-4
 enum-told-4 c = search needs
 
--- src/lib.rt:180:49
 enum-known-method : tie.Need-enum-known-method
 enum-known-method c = search needs
 
--- src/lib.rt:180:55
 flag-for-control-point-requires : tie.Need-flag-for-control-point-requires
 flag-for-control-point-requires c κs = search needs
 
--- src/lib.rt:181:50
 enum-known-method-2 : tie.Need-enum-known-method-2
 enum-known-method-2 c = search needs
 
--- src/lib.rt:181:56
 flag-for-control-point-requires-2 : tie.Need-flag-for-control-point-requires-2
 flag-for-control-point-requires-2 c κs = search needs
 
--- src/lib.rt:159:1
 returns-3 : tie.Need-returns-3
 returns-3 c = c .decide .ensures ∙ ap answered (c .before .basic .ensures) ∙ sym (flag-default _ (c .before .before .before .before .before .before .if1 .left) (c .before .before .before .before .before .if2 .left)) ∙ ap (flagOf _) (sym (c .before .before .before .enum-told .given .1))
 
--- src/lib.rt:159:1
 returns-4 : tie.Need-returns-4
 returns-4 c = c .decide2 .ensures ∙ ap (λ (b : Bool). answered (not b)) (c .before .basic2 .ensures) ∙ sym (flag-complement _ (c .before .before .before .before .before .before .if1 .left) (c .before .before .before .before .before .if2 .left)) ∙ ap (flagOf _) (sym (c .before .before .before .enum-told2 .given .1))
 
--- src/lib.rt:159:1
 returns-5 : tie.Need-returns-5
 returns-5 c = sym (flag-set _ (c .before .before .before .if1 .left) (c .before .before .if2 .left)) ∙ ap (flagOf _) (sym (c .enum-told3 .given .1))
 
--- src/lib.rt:159:1
 returns-6 : tie.Need-returns-6
 returns-6 c = sym (flag-clear _ (c .before .before .before .if1 .left) (c .before .before .if2 .left)) ∙ ap (flagOf _) (sym (c .enum-told4 .given .1))
 
--- src/lib.rt:159:1
 returns-7 : tie.Need-returns-7
 returns-7 c = c .flag-for-control-point .ensures ∙ sym (flag-in _ (c .before .before .before .before .before .if1 .left) (c .before .before .before .before .if2 .left) _) ∙ ap (flagOf _) (sym (c .before .before .method .given .1))
 
--- src/lib.rt:159:1
 returns-8 : tie.Need-returns-8
 returns-8 c = c .flag-for-control-point2 .ensures ∙ sym (flag-out _ (c .before .before .before .before .before .if1 .left) (c .before .before .before .before .if2 .left) _) ∙ ap (flagOf _) (sym (c .before .before .method2 .given .1))
 

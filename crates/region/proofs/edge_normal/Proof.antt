@@ -1,3 +1,4 @@
+-- `region::edge_normal` meets its contract. Assumes nothing.
 use mathlib.Core.Path.{_≡_, sym, ap, _∙_}
 use mathlib.Core.Bool.{true, false}
 use lib.Ieee.{lt}
@@ -9,11 +10,6 @@ use Rattle.region.specs.Edges.{northward, normalOf}
 use borrow.Author.Needs.{needs}
 use Rattle.region.proofs.edge_normal.Statement.{statement}
 use Rattle.region.proofs.edge_normal.Tie as tie
-use Rattle.region.proofs.edge_normal.Reads as reads
-use Rattle.region.proofs.edge_normal.Lts as lts
-use Rattle.coo3d.proofs.Coo3D.to_vect3.Reads as to-vect3-reads
-use Rattle.coo3d.proofs.Vect3.opposite.Reads as opposite-reads
-use Rattle.coo3d.proofs.cross_product.Reads as cross-product-reads
 
 south : (v : Vect3) → lt (v .z) nought ≡ true → northward v ≡ oppositeOf v
 unfolding northward
@@ -27,27 +23,21 @@ crossed : (from to : Coo3D) (a b v : Vect3) → a ≡ vectOfPoint from → b ≡
 unfolding normalOf
 crossed from to a b v p q e = ap northward (e ∙ rw (p, q))
 
--- src/lib.rt:46:34
 to-vect3-requires : tie.Need-to-vect3-requires
 to-vect3-requires c κs = search needs
 
--- src/lib.rt:46:51
 to-vect3-requires-2 : tie.Need-to-vect3-requires-2
 to-vect3-requires-2 c κs = search needs
 
--- src/lib.rt:46:9
 cross-product-requires : tie.Need-cross-product-requires
 cross-product-requires c κs = search needs
 
--- src/lib.rt:47:20
 opposite-requires : tie.Need-opposite-requires
 opposite-requires c κs = search needs
 
--- src/lib.rt:43:1
 returns : tie.Need-returns
 returns c = c .opposite .ensures ∙ sym (south _ (c .before .if1 .taken)) ∙ crossed _ _ _ _ _ (c .before .before .before .before .before .to-vect3 .ensures) (c .before .before .before .before .to-vect32 .ensures) (c .before .before .before .cross-product .ensures)
 
--- src/lib.rt:43:1
 returns-2 : tie.Need-returns-2
 returns-2 c = sym (north _ (c .if1 .left)) ∙ crossed _ _ _ _ _ (c .before .before .before .before .to-vect3 .ensures) (c .before .before .before .to-vect32 .ensures) (c .before .before .cross-product .ensures)
 

@@ -1,9 +1,10 @@
-use mathlib.Core.Path.{_≡_, refl, sym, ap, _∙_}
-use mathlib.Core.Bool.{Bool, true, false}
+-- `region::flag_for_control_point` meets its contract. Assumes nothing.
+use mathlib.Core.Path.{_≡_, sym, ap, _∙_}
+use mathlib.Core.Bool.{Bool}
 use Rattle.coo3d.specs.declared.Coo3D.{Coo3D}
 use Rattle.domain.specs.Checks.{pointAnswer, pointAt}
 use Rattle.domain.proofs.Points.{point-refused}
-use Rattle.refusal.specs.Answer.{Answer, answered, refused, andThen}
+use Rattle.refusal.specs.Answer.{answered, refused}
 use Prim.Native.Nat.{ℕ}
 use mathlib.Core.List.{List, [], _∷_}
 use Rattle.region.specs.View.{View, exactlyOne, oddAt}
@@ -11,11 +12,6 @@ use Rattle.region.specs.Region.{controlAt}
 use borrow.Author.Needs.{needs}
 use Rattle.region.proofs.flag_for_control_point.Statement.{statement}
 use Rattle.region.proofs.flag_for_control_point.Tie as tie
-use Rattle.region.proofs.flag_for_control_point.Reads as reads
-use Rattle.region.proofs.flag_for_control_point.Lts as lts
-use Rattle.domain.proofs.check_point.Reads as check-point-reads
-use Rattle.refusal.proofs.decide.Reads as decide-reads
-use Rattle.region.proofs.odd_num_intersect_going_south.Reads as odd-num-intersect-going-south-reads
 
 outside : (v : View) (p : Coo3D) (isIn : Bool) (n : ℕ) (vs : List ℕ) → refused n vs ≡ pointAt (v .count) p → refused 1 (v .count ∷ []) ≡ controlAt v p isIn
 unfolding controlAt
@@ -25,31 +21,24 @@ inside : (v : View) (p q : Coo3D) (isIn odd : Bool) → answered q ≡ pointAt (
 unfolding controlAt
 inside v p q isIn odd e o = rw (sym e, o)
 
--- src/lib.rt:152:34
 check-point-requires : tie.Need-check-point-requires
 check-point-requires c κs = search needs
 
--- src/lib.rt:152:27
 enum-known-coo : tie.Need-enum-known-coo
 enum-known-coo c = search needs
 
--- src/lib.rt:153:34
 enum-told : tie.Need-enum-told
 enum-told c = search needs
 
--- src/lib.rt:153:9
 returns : tie.Need-returns
 returns c = outside _ _ _ _ _ (ap pointAnswer (sym (c .enum-told .given .1)) ∙ c .before .before .check-point .ensures)
 
--- src/lib.rt:155:21
 odd-num-intersect-going-south-requires : tie.Need-odd-num-intersect-going-south-requires
 odd-num-intersect-going-south-requires c κs = search needs
 
--- src/lib.rt:155:5
 decide-requires : tie.Need-decide-requires
 decide-requires c κs = search needs
 
--- src/lib.rt:147:1
 returns-2 : tie.Need-returns-2
 returns-2 c = c .decide .ensures ∙ inside _ _ _ _ _ (ap pointAnswer (sym (c .before .before .before .coo .given .1)) ∙ c .before .before .before .before .before .check-point .ensures) (c .before .odd-num-intersect-going-south .ensures)
 

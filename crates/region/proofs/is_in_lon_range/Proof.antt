@@ -1,25 +1,19 @@
+-- `region::is_in_lon_range` meets its contract. Assumes nothing.
 use Rattle.region.specs.Edges.{inLonRange}
 use borrow.Author.Needs.{needs}
 use Rattle.region.proofs.is_in_lon_range.Statement.{statement}
 use Rattle.region.proofs.is_in_lon_range.Tie as tie
-use Rattle.region.proofs.is_in_lon_range.Reads as reads
-use Rattle.region.proofs.is_in_lon_range.Lts as lts
-use Rattle.float.proofs.within_half_open.Reads as within-half-open-reads
 
--- src/lib.rt:55:33
 within-half-open-requires : tie.Need-within-half-open-requires
 within-half-open-requires c κs = search needs
 
--- src/lib.rt:57:32
 within-half-open-requires-2 : tie.Need-within-half-open-requires-2
 within-half-open-requires-2 c κs = search needs
 
--- src/lib.rt:50:1
 returns : tie.Need-returns
 unfolding inLonRange
 returns c = simp (c .before .if1 .taken, c .within-half-open .ensures)
 
--- src/lib.rt:50:1
 returns-2 : tie.Need-returns-2
 unfolding inLonRange
 returns-2 c = simp (c .before .if1 .left, c .within-half-open2 .ensures)

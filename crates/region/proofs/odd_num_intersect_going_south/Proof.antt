@@ -1,22 +1,19 @@
+-- `region::odd_num_intersect_going_south` meets its contract. Assumes nothing.
 use Rattle.coo3d.specs.declared.Coo3D.{Coo3D}
 use Rattle.region.specs.declared.Region.{Region}
-use Prim.Native.Nat.{ℕ, _-_, _≤_, _<_}
+use Prim.Native.Nat.{_-_, _≤_}
 use native.Mathlib.Omega.{arith}
-use mathlib.Core.Path.{_≡_, refl, sym, ap, _∙_}
-use mathlib.Core.Bool.{Bool}
+use mathlib.Core.Path.{_≡_, sym, ap, _∙_}
 use mathlib.Core.List.{List}
 use borrow.Author.Needs.{needs}
-use lib.ListN.{length, getD}
+use lib.ListN.{length}
 use Rattle.region.specs.Edges.{Edge, isCounted}
-use Rattle.region.specs.View.{viewOf, nowhere, exactlyOne, oddMany, oddAt, edgesOf}
+use Rattle.region.specs.View.{viewOf, exactlyOne, oddMany, oddAt, edgesOf}
 use Rattle.region.proofs.Lengths.{unmap}
-use Rattle.region.proofs.Edges.{nothing, edgesLeft, start, turn, done}
+use Rattle.region.proofs.Edges.{edgesLeft, start, turn, done}
 use Rattle.region.proofs.Odd.{false-one, odd-turn, odd-done}
 use Rattle.region.proofs.odd_num_intersect_going_south.Statement.{statement}
 use Rattle.region.proofs.odd_num_intersect_going_south.Tie as tie
-use Rattle.region.proofs.odd_num_intersect_going_south.Reads as reads
-use Rattle.region.proofs.odd_num_intersect_going_south.Lts as lts
-use Rattle.region.proofs.is_counted.Reads as is-counted-reads
 
 abbrev Inv-loop : tie.InvT-loop
 Inv-loop coo r count last from₀ odd₀ i₀ from odd i =
@@ -35,53 +32,41 @@ started : (coo : Coo3D) (r : Region) (es : List Edge) → edgesOf (viewOf r) ≡
 unfolding oddAt
 started coo r es e = rw e
 
--- src/lib.rt:132:16
 sub-last : tie.Need-sub-last Inv-loop μ-loop
 sub-last c = search needs
 
--- src/lib.rt:133:20
 mul-from : tie.Need-mul-from Inv-loop μ-loop
 mul-from c = search needs
 
--- src/lib.rt:133:20
 element-copy-out-from : tie.Need-element-copy-out-from Inv-loop μ-loop
 element-copy-out-from c = search needs
 
--- src/lib.rt:136:5
 loop-holds : tie.Need-loop-holds Inv-loop μ-loop
 loop-holds c =
     let s = c .before in
     (search needs, false-one _ ∙ sym (started (s .args .coo) _ _ (start (s .args .t1) (search needs) (long s))))
 
--- src/lib.rt:137:18
 mul-to : tie.Need-mul-to Inv-loop μ-loop
 mul-to c = search needs
 
--- src/lib.rt:137:18
 element-copy-out-to : tie.Need-element-copy-out-to Inv-loop μ-loop
 element-copy-out-to c = search needs
 
--- src/lib.rt:138:17
 mul-n : tie.Need-mul-n Inv-loop μ-loop
 mul-n c = search needs
 
--- src/lib.rt:138:17
 element-copy-out-n : tie.Need-element-copy-out-n Inv-loop μ-loop
 element-copy-out-n c = search needs
 
--- src/lib.rt:139:22
 is-counted-requires : tie.Need-is-counted-requires Inv-loop μ-loop
 is-counted-requires c κs = search needs
 
--- src/lib.rt:141:9
 add-i : tie.Need-add-i Inv-loop μ-loop
 add-i c = search needs
 
--- src/lib.rt:136:5
 loop-less : tie.Need-loop-less Inv-loop μ-loop
 loop-less c = search needs
 
--- src/lib.rt:136:5
 loop-again : tie.Need-loop-again Inv-loop μ-loop
 loop-again c =
     let s = c .before .before .before .before .before .before in
@@ -89,7 +74,6 @@ loop-again c =
     let t = turn (s .args .t1) (l .from) (l .i) (long s) (long' s) (search needs) in
     (search needs, rw (c .is-counted .ensures) (sym (odd-turn (isCounted (s .args .coo)) (l .odd) _ _) ∙ ap (λ (es : List Edge). exactlyOne (l .odd) (oddMany (isCounted (s .args .coo)) es)) (sym t) ∙ l .inv .1))
 
--- src/lib.rt:127:1
 returns : tie.Need-returns Inv-loop μ-loop
 returns c =
     let s = c .before .before .before in

@@ -11,8 +11,6 @@ use Rattle.root.specs.Whole.{IsRoot}
 use Rattle.root.proofs.Grow.{stays, lifts, pow-next}
 use Rattle.root.proofs.digits.Statement.{statement}
 use Rattle.root.proofs.digits.Tie as tie
-use Rattle.root.proofs.digits.Reads as reads
-use Rattle.root.proofs.digits.Lts as lts
 
 -- X is n * 4 ^ i
 record Have (X i m s r : ℕ) : Type 0 where
@@ -90,59 +88,45 @@ at c =
 ends : (n i k m s r : ℕ) → i ≡ k → Have (n * 4 ^ i) i m s r → IsRoot (n * 4 ^ k / 2 ^ 64) s r
 ends n i k m s r e h = subst (λ (x : ℕ). IsRoot (n * 4 ^ x / 2 ^ 64) s r) e (h .root)
 
--- src/lib.rt:21:5
 loop-holds : tie.Need-loop-holds Inv-loop μ-loop
 loop-holds c = (omega arith, begins (c .args .n) (c .fits .n .fits))
 
--- src/lib.rt:22:17
 mul-t : tie.Need-mul-t Inv-loop μ-loop
 mul-t c = let b = at c in omega arith
 
--- src/lib.rt:22:17
 add-t : tie.Need-add-t Inv-loop μ-loop
 add-t c = let b = at c in omega arith
 
--- src/lib.rt:23:17
 mul-u : tie.Need-mul-u Inv-loop μ-loop
 mul-u c = let b = at c in omega arith
 
--- src/lib.rt:23:17
 add-u : tie.Need-add-u Inv-loop μ-loop
 add-u c = let b = at c in omega arith
 
--- src/lib.rt:25:17
 cast-d : tie.Need-cast-d Inv-loop μ-loop
 cast-d c = tt
 
--- src/lib.rt:26:13
 mul-s : tie.Need-mul-s Inv-loop μ-loop
 mul-s c = let b = at c in omega arith
 
--- src/lib.rt:26:13
 add-s : tie.Need-add-s Inv-loop μ-loop
 add-s c = let b = at c in omega (arith, bit-le (leb (c .before .loop .s * 4 + 1) (c .before .loop .r * 4 + c .before .loop .m / 2 ^ 62)))
 
--- src/lib.rt:27:17
 mul-r : tie.Need-mul-r Inv-loop μ-loop
 mul-r c = let b = at c in let d = taken-le (c .before .loop .s * 4 + 1) (c .before .loop .r * 4 + c .before .loop .m / 2 ^ 62) in record { fits = lt-of-le-of-lt d (omega arith) }
 
--- src/lib.rt:27:13
 sub-r : tie.Need-sub-r Inv-loop μ-loop
 sub-r c = taken-le (c .before .loop .s * 4 + 1) (c .before .loop .r * 4 + c .before .loop .m / 2 ^ 62)
 
--- src/lib.rt:28:9
 add-i : tie.Need-add-i Inv-loop μ-loop
 add-i c = omega arith
 
--- src/lib.rt:21:5
 loop-less : tie.Need-loop-less Inv-loop μ-loop
 loop-less c = omega arith
 
--- src/lib.rt:21:5
 loop-again : tie.Need-loop-again Inv-loop μ-loop
 loop-again c = let a = c .before in (omega arith, turn (a .before .args .n) (a .loop .i) (a .loop .m) (a .loop .s) (a .loop .r) (a .loop .inv .1))
 
--- src/lib.rt:13:1
 returns : tie.Need-returns Inv-loop μ-loop
 returns c =
     let a = c .before in

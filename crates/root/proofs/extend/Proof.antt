@@ -1,15 +1,13 @@
 -- `root::extend` meets its contract: the law of `proofs/Quotient.antt`, and bounds that keep each step within 64 bits. Assumes nothing.
-use mathlib.Core.Path.{_≡_, refl, sym, ap, _∙_, subst}
+use mathlib.Core.Path.{_≡_, sym, ap, _∙_, subst}
 use Prim.Native.Nat.{ℕ, _+_, _-_, _*_, _/_, _%_, _^_, _≤_, _<_}
-use native.Mathlib.Nat.{le-trans, le-of-lt, lt-of-not-le, mul-comm, mul-assoc, mul-le-mul, mul-le-mul-right, div-add-mod', mod-lt}
+use native.Mathlib.Nat.{le-of-lt, lt-of-not-le, mul-comm, mul-assoc, mul-le-mul, mul-le-mul-right, div-add-mod', mod-lt}
 use native.Mathlib.Omega.{arith}
 use borrow.Author.Needs.{needs}
 use Rattle.root.specs.Whole.{IsRoot, Extends}
 use Rattle.root.proofs.Quotient.{digit-le, digit-square, left-lt, fits-well, one-less}
 use Rattle.root.proofs.extend.Statement.{statement}
 use Rattle.root.proofs.extend.Tie as tie
-use Rattle.root.proofs.extend.Reads as reads
-use Rattle.root.proofs.extend.Lts as lts
 
 -- s * b, r * b, m, the remainder times b, c, the quotient and its square
 record Bounds (S X m U c q Q : ℕ) : Type 0 where
@@ -123,73 +121,56 @@ At c =
 at : (c : tie.Start) → At c
 at c = bounds (c .args .w .root) (c .args .w .remainder) (c .args .b) (c .args .m) (c .args .c) (c .pre)
 
--- src/lib.rt:47:13
 mul-d : tie.Need-mul-d
 mul-d c = search needs
 
--- src/lib.rt:48:13
 mul-x : tie.Need-mul-x
 mul-x c = record { fits = a1 (at (c .before .before)) }
 
--- src/lib.rt:48:13
 add-x : tie.Need-add-x
 add-x c = record { fits = a2 (at (c .before .before)) }
 
--- src/lib.rt:49:13
 div-q : tie.Need-div-q
 div-q c = search needs
 
--- src/lib.rt:50:13
 rem-t : tie.Need-rem-t
 rem-t c = search needs
 
--- src/lib.rt:50:13
 mul-t : tie.Need-mul-t
 mul-t c = record { fits = a3 (at (c .before .before)) }
 
--- src/lib.rt:50:13
 add-t : tie.Need-add-t
 add-t c = record { fits = a4 (at (c .before .before)) }
 
--- src/lib.rt:51:13
 mul-s : tie.Need-mul-s
 mul-s c = record { fits = a5 (at (c .before .before .before)) }
 
--- src/lib.rt:51:13
 add-s : tie.Need-add-s
 add-s c = record { fits = a6 (at (c .before .before .before)) }
 
--- src/lib.rt:52:13
 mul-k : tie.Need-mul-k
 mul-k c = record { fits = a7 (at (c .before .before .before)) }
 
--- src/lib.rt:60:19
 sub-t16 : tie.Need-sub-t16
 sub-t16 c = a8 (at (c .before .before .before .before))
 
--- src/lib.rt:61:29
 mul-t17 : tie.Need-mul-t17
 mul-t17 c = record { fits = a9 (at (c .before .before .before .before)) }
 
--- src/lib.rt:61:29
 sub-t18 : tie.Need-sub-t18
 sub-t18 c = a10 (at (c .before .before .before .before))
 
--- src/lib.rt:61:24
 add-t19 : tie.Need-add-t19
 add-t19 c = record { fits = a11 (at (c .before .before .before .before)) }
 
--- src/lib.rt:61:24
 sub-t20 : tie.Need-sub-t20
 sub-t20 c = a12 (at (c .before .before .before .before)) (c .if1 .left)
 
--- src/lib.rt:43:1
 returns : tie.Need-returns
 returns c =
     let a = c .before .before .before .before .args in
     high (a .w .root) (a .w .remainder) (a .b) (a .m) (a .c) (c .before .before .before .before .pre) (c .if1 .taken)
 
--- src/lib.rt:43:1
 returns-2 : tie.Need-returns-2
 returns-2 c =
     let a = c .before .before .before .before .args in

@@ -1,5 +1,5 @@
 -- `root::finite` meets its contract. Assumes nothing.
-use mathlib.Core.Path.{_≡_, refl, sym, ap, _∙_, subst}
+use mathlib.Core.Path.{_≡_, sym, ap, _∙_, subst}
 use Prim.Native.Nat.{ℕ, _+_, _*_, _/_, _%_, _^_, _≤_, _<_}
 use native.Mathlib.Nat.{le-trans, lt-of-lt-of-le, le-mul-of-pos-right}
 use native.Mathlib.Omega.{arith}
@@ -9,9 +9,6 @@ use Rattle.root.specs.Whole.{nearRoot}
 use Rattle.root.proofs.Laws.{near-le}
 use Rattle.root.proofs.finite.Statement.{statement}
 use Rattle.root.proofs.finite.Tie as tie
-use Rattle.root.proofs.finite.Reads as reads
-use Rattle.root.proofs.finite.Lts as lts
-use Rattle.root.proofs.nearest.Reads as nearest-reads
 
 -- the shift loses no digit
 shifted : (m f : ℕ) → m < 2 ^ 53 → m * 2 ^ (f % 2) % 2 ^ 64 ≡ m * 2 ^ (f % 2)

@@ -1,17 +1,13 @@
 -- `root::nearest` meets its contract: the root of the first 16 bits, then of the first 32, of all 64, and of those with 44 zeros after them. Assumes nothing.
-use mathlib.Core.Path.{_≡_, refl, sym, ap, _∙_, subst}
+use mathlib.Core.Path.{_≡_, ap, _∙_, subst}
 use Prim.Native.Nat.{ℕ, _+_, _*_, _/_, _%_, _^_, _≤_, _<_}
 use native.Mathlib.Omega.{arith}
 use borrow.Author.Needs.{needs}
-use Rattle.root.specs.Whole.{IsRoot, Extends, nearRoot}
+use Rattle.root.specs.Whole.{IsRoot, Extends}
 use Rattle.root.proofs.Quotient.{root-ge, root-lt}
 use Rattle.root.proofs.Laws.{nearest-is, root-short}
 use Rattle.root.proofs.nearest.Statement.{statement}
 use Rattle.root.proofs.nearest.Tie as tie
-use Rattle.root.proofs.nearest.Reads as reads
-use Rattle.root.proofs.nearest.Lts as lts
-use Rattle.root.proofs.digits.Reads as digits-reads
-use Rattle.root.proofs.extend.Reads as extend-reads
 
 -- x is n * 1024
 abbrev Wide : ℕ → Type 0

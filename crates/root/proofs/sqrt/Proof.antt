@@ -1,5 +1,5 @@
 -- `root::sqrt` meets its contract. Assumes nothing.
-use mathlib.Core.Path.{_≡_, refl, sym, ap, _∙_, subst}
+use mathlib.Core.Path.{_≡_, sym, ap, _∙_, subst}
 use Prim.Native.Nat.{ℕ, _+_, _-_, _*_, _/_, _%_, _^_, _≤_, _<_}
 use native.Mathlib.Nat.{mod-eq-of-lt}
 use native.Mathlib.Omega.{arith}
@@ -10,14 +10,11 @@ use lib.Ieee.{Float, binary64, fits, ofBits, toBits}
 use lib.Ieee.Bits.{ofBits-toBits, toBits-lt}
 use Rattle.float.proofs.Nan.{not-nan, nan-made}
 use Rattle.root.specs.Whole.{nearRoot}
-use Rattle.root.specs.Root.{rootUnits, sqrtOf}
+use Rattle.root.specs.Root.{sqrtOf}
 use Rattle.root.proofs.Bits.{of-nan, no-nan-bits, Shifted, shifted}
 use Rattle.root.proofs.Units.{of-zero, of-minus-zero, of-top, of-negative, of-normal, of-subnormal, normal-units, root-is, under-infinity}
 use Rattle.root.proofs.sqrt.Statement.{statement}
 use Rattle.root.proofs.sqrt.Tie as tie
-use Rattle.root.proofs.sqrt.Reads as reads
-use Rattle.root.proofs.sqrt.Lts as lts
-use Rattle.root.proofs.finite.Reads as finite-reads
 
 -- the argument's pattern, read back, is the argument
 back : (c : tie.Start) → ofBits binary64 (toBits binary64 (c .args .a)) ≡ c .args .a

@@ -1,21 +1,16 @@
+-- `zone::bounds_hold` meets its contract. Assumes nothing.
 use mathlib.Core.Bool.{and-assoc}
 use Rattle.zone.specs.Zone.{boundsHold}
 use borrow.Author.Needs.{needs}
 use Rattle.zone.proofs.bounds_hold.Statement.{statement}
 use Rattle.zone.proofs.bounds_hold.Tie as tie
-use Rattle.zone.proofs.bounds_hold.Reads as reads
-use Rattle.zone.proofs.bounds_hold.Lts as lts
-use Rattle.float.proofs.within_half_open.Reads as within-half-open-reads
 
--- src/lib.rt:26:5
 within-half-open-requires : tie.Need-within-half-open-requires
 within-half-open-requires c κs = search needs
 
--- src/lib.rt:29:11
 within-half-open-requires-2 : tie.Need-within-half-open-requires-2
 within-half-open-requires-2 c κs = search needs
 
--- src/lib.rt:23:1
 returns : tie.Need-returns
 unfolding boundsHold
 returns c = simp (c .before .within-half-open .ensures, c .within-half-open2 .ensures, and-assoc)

@@ -1,32 +1,23 @@
+-- `coo3d::UnitVect3::new` meets its contract. Assumes nothing.
 use mathlib.Core.Path.{sym}
 use Rattle.coo3d.specs.Vectors.{unitOf}
 use borrow.Author.Needs.{needs}
 use Rattle.coo3d.proofs.UnitVect3.new.Statement.{statement}
 use Rattle.coo3d.proofs.UnitVect3.new.Tie as tie
-use Rattle.coo3d.proofs.UnitVect3.new.Reads as reads
-use Rattle.coo3d.proofs.UnitVect3.new.Lts as lts
-use Rattle.coo3d.proofs.is_unit_from_norm.Reads as is-unit-from-norm-reads
-use Rattle.coo3d.proofs.squared_norm_of.Reads as squared-norm-of-reads
-use Rattle.root.proofs.sqrt.Reads as sqrt-reads
 
--- src/lib.rt:122:13
 squared-norm-of-requires : tie.Need-squared-norm-of-requires
 squared-norm-of-requires c κs = search needs
 
--- src/lib.rt:123:12
 is-unit-from-norm-requires : tie.Need-is-unit-from-norm-requires
 is-unit-from-norm-requires c κs = search needs
 
--- src/lib.rt:126:17
 sqrt-requires : tie.Need-sqrt-requires
 sqrt-requires c κs = search needs
 
--- src/lib.rt:119:5
 returns : tie.Need-returns
 unfolding unitOf
 returns c = simp (sym (c .before .before .squared-norm-of .ensures), sym (c .before .is-unit-from-norm .ensures), c .if1 .taken)
 
--- src/lib.rt:119:5
 returns-2 : tie.Need-returns-2
 unfolding unitOf
 returns-2 c =

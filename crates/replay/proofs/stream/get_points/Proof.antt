@@ -1,10 +1,8 @@
+-- `replay::stream::get_points` meets its contract. Assumes nothing.
 use Prim.Native.Nat.{_-_, _≤_}
 use borrow.Author.Needs.{needs}
 use Rattle.replay.proofs.stream.get_points.Statement.{statement}
 use Rattle.replay.proofs.stream.get_points.Tie as tie
-use Rattle.replay.proofs.stream.get_points.Reads as reads
-use Rattle.replay.proofs.stream.get_points.Lts as lts
-use Rattle.replay.proofs.stream.get_point.Reads as get-point-reads
 
 abbrev Inv-loop : tie.InvT-loop
 Inv-loop input₀ n values₀ stream₀ i₀ input values stream i = i ≤ n
@@ -12,35 +10,27 @@ Inv-loop input₀ n values₀ stream₀ i₀ input values stream i = i ≤ n
 abbrev μ-loop : tie.MeasureT-loop
 μ-loop input₀ n values₀ stream₀ i₀ input values stream i = n - i
 
--- src/stream.rt:234:5
 loop-holds : tie.Need-loop-holds Inv-loop μ-loop
 loop-holds c = search needs
 
--- src/stream.rt:235:13
 get-point-requires : tie.Need-get-point-requires Inv-loop μ-loop
 get-point-requires c κs = search needs
 
--- src/stream.rt:239:13
 mul-values : tie.Need-mul-values Inv-loop μ-loop
 mul-values c = search needs
 
--- src/stream.rt:239:13
 array-set-from-values : tie.Need-array-set-from-values Inv-loop μ-loop
 array-set-from-values c = search needs
 
--- src/stream.rt:241:9
 add-i : tie.Need-add-i Inv-loop μ-loop
 add-i c = search needs
 
--- src/stream.rt:234:5
 loop-less : tie.Need-loop-less Inv-loop μ-loop
 loop-less c = search needs
 
--- src/stream.rt:234:5
 loop-again : tie.Need-loop-again Inv-loop μ-loop
 loop-again c = search needs
 
--- src/stream.rt:223:1
 returns : tie.Need-returns Inv-loop μ-loop
 returns c = search needs
 

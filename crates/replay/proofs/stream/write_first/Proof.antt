@@ -1,25 +1,19 @@
+-- `replay::stream::write_first` meets its contract. Assumes nothing.
 use mathlib.Core.Path.{sym}
 use lib.Seq.{length-take-le}
 use borrow.Author.Needs.{needs}
 use Rattle.replay.proofs.stream.write_first.Statement.{statement}
 use Rattle.replay.proofs.stream.write_first.Tie as tie
-use Rattle.replay.proofs.stream.write_first.Reads as reads
-use Rattle.replay.proofs.stream.write_first.Lts as lts
-use Rattle.io.proofs.write_all.Reads as write-all-reads
 
--- src/stream.rt:248:38
 slice-aggregate-write-all : tie.Need-slice-aggregate-write-all
 slice-aggregate-write-all c = sym (length-take-le _ _ (search needs))
 
--- src/stream.rt:248:9
 write-all-requires : tie.Need-write-all-requires
 write-all-requires c κs = search needs
 
--- src/stream.rt:246:1
 returns : tie.Need-returns
 returns c = search needs
 
--- src/stream.rt:246:1
 returns-2 : tie.Need-returns-2
 returns-2 c = search needs
 

@@ -1,21 +1,16 @@
+-- `zone::Zone::contains` meets its contract. Assumes nothing.
 use Rattle.zone.specs.Zone.{containsOf}
 use borrow.Author.Needs.{needs}
 use Rattle.zone.proofs.Zone.contains.Statement.{statement}
 use Rattle.zone.proofs.Zone.contains.Tie as tie
-use Rattle.zone.proofs.Zone.contains.Reads as reads
-use Rattle.zone.proofs.Zone.contains.Lts as lts
-use Rattle.float.proofs.within_half_open.Reads as within-half-open-reads
 
--- src/lib.rt:115:13
 within-half-open-requires : tie.Need-within-half-open-requires
 within-half-open-requires c κs = search needs
 
--- src/lib.rt:112:5
 returns : tie.Need-returns
 unfolding containsOf
 returns c = simp (c .before .before .if1 .taken, c .before .before .before .within-half-open .ensures)
 
--- src/lib.rt:112:5
 returns-2 : tie.Need-returns-2
 unfolding containsOf
 returns-2 c = simp (c .before .before .if1 .left, c .before .before .before .within-half-open .ensures)

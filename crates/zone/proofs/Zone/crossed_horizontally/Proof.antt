@@ -1,3 +1,4 @@
+-- `zone::Zone::crossed_horizontally` meets its contract. Assumes nothing.
 use mathlib.Core.Path.{_≡_, refl, ap}
 use lib.Ieee.{lt, le}
 use Rattle.float.specs.Doubles.{halfOpen}
@@ -6,19 +7,14 @@ use Rattle.zone.specs.Zone.{crossedHorizontally}
 use borrow.Author.Needs.{needs}
 use Rattle.zone.proofs.Zone.crossed_horizontally.Statement.{statement}
 use Rattle.zone.proofs.Zone.crossed_horizontally.Tie as tie
-use Rattle.zone.proofs.Zone.crossed_horizontally.Reads as reads
-use Rattle.zone.proofs.Zone.crossed_horizontally.Lts as lts
-use Rattle.float.proofs.within_half_open.Reads as within-half-open-reads
 
 and-cond : (a b : Bool) → (a && b) ≡ cond a b false
 and-cond true b = refl
 and-cond false b = refl
 
--- src/lib.rt:90:13
 within-half-open-requires : tie.Need-within-half-open-requires
 within-half-open-requires c κs = search needs
 
--- src/lib.rt:86:5
 returns : tie.Need-returns
 unfolding crossedHorizontally
 returns c =
@@ -27,12 +23,10 @@ returns c =
     simp (c .if1 .taken, c .before .before .before .within-half-open .ensures)
     (ap (λ (b : Bool). halfOpen (z .«lat_min») (a .lat) (z .«lat_max») && b) (and-cond (lt (a .lon-right) (a .lon-left)) (lt (a .lon-left) (z .«lon_min») && le (z .«lon_max») (a .lon-right))))
 
--- src/lib.rt:86:5
 returns-2 : tie.Need-returns-2
 unfolding crossedHorizontally
 returns-2 c = simp (c .before .if1 .left, c .if2 .taken, c .before .before .before .before .within-half-open .ensures)
 
--- src/lib.rt:86:5
 returns-3 : tie.Need-returns-3
 unfolding crossedHorizontally
 returns-3 c = simp (c .before .if1 .left, c .if2 .left, c .before .before .before .before .within-half-open .ensures)

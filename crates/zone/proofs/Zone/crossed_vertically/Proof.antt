@@ -1,15 +1,12 @@
+-- `zone::Zone::crossed_vertically` meets its contract. Assumes nothing.
 use Rattle.zone.specs.Zone.{crossedVertically}
 use Rattle.zone.proofs.Zone.crossed_vertically.Statement.{statement}
 use Rattle.zone.proofs.Zone.crossed_vertically.Tie as tie
-use Rattle.zone.proofs.Zone.crossed_vertically.Reads as reads
-use Rattle.zone.proofs.Zone.crossed_vertically.Lts as lts
 
--- src/lib.rt:74:5
 returns : tie.Need-returns
 unfolding crossedVertically
 returns c = simp (c .before .before .if1 .taken)
 
--- src/lib.rt:74:5
 returns-2 : tie.Need-returns-2
 unfolding crossedVertically
 returns-2 c = simp (c .before .before .if1 .left)

@@ -1,15 +1,12 @@
+-- `zone::Zone::dlon` meets its contract. Assumes nothing.
 use Rattle.zone.specs.Zone.{dlonOf}
 use Rattle.zone.proofs.Zone.dlon.Statement.{statement}
 use Rattle.zone.proofs.Zone.dlon.Tie as tie
-use Rattle.zone.proofs.Zone.dlon.Reads as reads
-use Rattle.zone.proofs.Zone.dlon.Lts as lts
 
--- src/lib.rt:63:5
 returns : tie.Need-returns
 unfolding dlonOf
 returns c = simp (c .before .before .if1 .taken)
 
--- src/lib.rt:63:5
 returns-2 : tie.Need-returns-2
 unfolding dlonOf
 returns-2 c = simp (c .before .if1 .left)
