@@ -4,13 +4,15 @@
 UPSTREAM ?= ../shared/docs/src
 SEED ?= 1
 COUNT ?= 200000
+LISTS ?= 10000
 
-.PHONY: help setup demo test differential fixed-list
+.PHONY: help setup demo test differential lists fixed-list
 
 help:
 	@echo 'make demo          runs the example: fixes against a region and a zone, crossings, refusals'
 	@echo 'make test          the whole gate: proofs, must-fail edits, fixed list, comparison with upstream'
 	@echo 'make differential  SEED=n COUNT=n: compares that many requests with upstream'
+	@echo 'make lists         SEED=n LISTS=n: compares that many lists of 1 to 200 edits with upstream'
 	@echo 'make fixed-list    makes the fixed list of crates/replay anew from upstream'
 	@echo 'make setup         installs what is missing, by package name'
 
@@ -28,6 +30,9 @@ test: setup
 
 differential: setup
 	@tests/differential '$(UPSTREAM)' '$(SEED)' '$(COUNT)'
+
+lists: setup
+	@tests/differential '$(UPSTREAM)' '$(SEED)' '$(LISTS)' edits
 
 fixed-list: setup
 	@tests/fixed-list '$(UPSTREAM)'

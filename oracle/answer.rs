@@ -1,18 +1,21 @@
 //! answer: reads requests from standard input and writes upstream's answers to standard output.
 //! The refusals, which upstream does not have, are written here from the scope's table.
 
+mod record;
+
 use std::io::{self, BufWriter, Write};
 use std::process::ExitCode;
 
+use record::Region;
 use stream::{
     answered, read_request, status, within, write_word, zone_bounds_hold, Call, Next, Outcome,
-    Words, CONTROL_POINT_IN, KINDS, MOST_POINTS, PARALLEL_BOUNDS, POINT_BOUNDS, POINT_WORDS,
-    VECTOR_BOUNDS, VECTOR_WORDS,
+    Words, KINDS, MOST_POINTS, PARALLEL_BOUNDS, POINT_BOUNDS, POINT_WORDS, VECTOR_BOUNDS,
+    VECTOR_WORDS,
 };
 use upstream::sph_geom::cone::Cone;
 use upstream::sph_geom::coo3d::{Coo3D, LonLatT, UnitVect3, Vec3, Vect3};
 use upstream::sph_geom::zone::Zone;
-use upstream::sph_geom::{ContainsSouthPoleMethod, Polygon};
+use upstream::sph_geom::Polygon;
 
 /// A refusal's number, and the word that follows it where one does.
 #[derive(Clone, Copy)]
@@ -26,7 +29,7 @@ type Answer<T> = Result<T, Refusal>;
 /// What is kept from one request to the next.
 struct Kept {
     /// A value of a wrong count is the refusal that every call on it gives.
-    region: Answer<Polygon>,
+    region: Answer<Region>,
     zone: Option<Zone>,
 }
 
@@ -73,7 +76,13 @@ fn answer_all() -> io::Result<()> {
 /// Adds what follows a status of 0; what it adds before it refuses does not count.
 fn answer_one(call: Call, request: &[u64], kept: &mut Kept, answer: &mut Vec<u64>) -> Answer<()> {
     match call {
-        Call::Build => kept.region = Ok(build(request)?),
+        Call::Build => kept.region = Ok(Region::made(build(request)?)),
+        Call::Put => edited(kept)?.put(request[0], &request[1..])?,
+        Call::Insert => edited(kept)?.insert(request[0], &request[1..])?,
+        Call::Remove => edited(kept)?.remove(request[0])?,
+        Call::Turn => edited(kept)?.turn(),
+        Call::Hold | Call::HoldLent => edited(kept)?.hold(request)?,
+        Call::Rule => edited(kept)?.rule(request[0], &request[1..])?,
         Call::Region => dump(region(kept)?, answer),
         Call::Contains => {
             let region = region(kept)?;
@@ -129,7 +138,7 @@ fn answer_one(call: Call, request: &[u64], kept: &mut Kept, answer: &mut Vec<u64
             zone_rest(kept.zone.as_ref().ok_or(none)?, request, answer);
         }
         Call::BoundingCone => bounding_cone(request, answer)?,
-        Call::RegionValue => kept.region = region_value(request),
+        Call::RegionValue => kept.region = region_value(request).map(Region::handed_in),
     }
     Ok(())
 }
@@ -190,21 +199,21 @@ fn parallel(request: &[u64]) -> Answer<[f64; 3]> {
 }
 
 fn region(kept: &Kept) -> Answer<&Polygon> {
-    kept.region.as_ref().map_err(|refusal| *refusal)
+    match &kept.region {
+        Ok(region) => Ok(&region.polygon),
+        Err(refusal) => Err(*refusal),
+    }
+}
+
+fn edited(kept: &mut Kept) -> Answer<&mut Region> {
+    kept.region.as_mut().map_err(|refusal| *refusal)
 }
 
 fn build(request: &[u64]) -> Answer<Polygon> {
     let (count, rule) = (request[0], request[1]);
     let (control, corners) = request[2..].split_at(POINT_WORDS);
     let corners = points(count, corners)?;
-    let method = match rule {
-        0 => ContainsSouthPoleMethod::Default,
-        1 => ContainsSouthPoleMethod::DefaultComplement,
-        2 => ContainsSouthPoleMethod::ContainsSouthPole,
-        3 => ContainsSouthPoleMethod::DoNotContainsSouthPole,
-        CONTROL_POINT_IN => ContainsSouthPoleMethod::ControlPointIn(point(control, count)?),
-        _ => ContainsSouthPoleMethod::ControlPointOut(point(control, count)?),
-    };
+    let method = record::method(rule, control, count)?;
     Ok(Polygon::new_custom_vec3(corners.into(), &method))
 }
 

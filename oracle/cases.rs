@@ -1,9 +1,9 @@
 //! In which case of upstream's parallel calls an edge falls: our own reading of its conditions,
 //! for compare's report alone. No comparison rests on it.
 
-use stream::{MOST_POINTS, POINT_WORDS};
+use stream::{Call, MOST_POINTS, POINT_WORDS};
 
-use crate::edges::{cross, normals, vector, Point, Vector};
+use crate::edges::{cross, vector, Kept, Point, Vector};
 
 /// The cases, by upstream's own letters. A is a normal with an x other than 0, B one without.
 #[derive(Clone, Copy, PartialEq, Eq)]
@@ -35,33 +35,19 @@ pub const NAMES: [&str; 9] = [
 /// How many edges fell in each case.
 pub type Counts = [u64; NAMES.len()];
 
-/// What the cases rest on: the corners, and the normal of the edge that ends at each.
-#[derive(Default)]
-pub struct Region {
-    corners: Vec<Point>,
-    normals: Vec<Vector>,
-}
-
-impl Region {
-    /// From the words of a build that was not refused.
-    pub fn built(request: &[u64]) -> Self {
-        let corners: Vec<Point> = entries(&request[2 + POINT_WORDS..]).collect();
-        Region {
-            normals: normals(&corners),
-            corners,
-        }
-    }
-
-    /// From the words of a region value; one that is refused holds no edge.
-    pub fn handed_in(request: &[u64]) -> Self {
-        let count = match request[0] {
-            count @ 0..=MOST_POINTS => count as usize,
-            _ => 0,
-        };
-        let (corners, normals) = request[2..].split_at(MOST_POINTS as usize * POINT_WORDS);
-        Region {
-            corners: entries(corners).take(count).collect(),
-            normals: entries(normals).take(count).collect(),
+impl Kept {
+    /// What a request that was not refused leaves.
+    pub fn follow(&mut self, call: Call, request: &[u64]) {
+        match call {
+            Call::Build => {
+                *self = Kept::built(entries(&request[2 + POINT_WORDS..]).collect());
+            }
+            Call::RegionValue => *self = handed_in(request),
+            Call::Put => self.put(request[0], doubles(&request[1..])),
+            Call::Insert => self.insert(request[0], doubles(&request[1..])),
+            Call::Remove => self.remove(request[0]),
+            // The others leave corners and normals as they are.
+            _ => {}
         }
     }
 
@@ -79,6 +65,19 @@ impl Region {
             }
             start = end;
         }
+    }
+}
+
+/// A value of a wrong count holds no edge.
+fn handed_in(request: &[u64]) -> Kept {
+    let count = match request[0] {
+        count @ 0..=MOST_POINTS => count as usize,
+        _ => 0,
+    };
+    let (corners, normals) = request[2..].split_at(MOST_POINTS as usize * POINT_WORDS);
+    Kept {
+        corners: entries(corners).take(count).collect(),
+        normals: entries(normals).take(count).collect(),
     }
 }
 

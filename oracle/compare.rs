@@ -10,9 +10,10 @@ use std::fs::File;
 use std::num::FpCategory;
 use std::process::ExitCode;
 
+use edges::Kept;
 use stream::{
     describe_answer, describe_request, read_answer, read_request, status, Call, Kind, Next,
-    Outcome, Part, Words, KINDS, RULES,
+    Outcome, Part, Words, EDITS, KINDS, RULES,
 };
 
 fn main() -> ExitCode {
@@ -105,7 +106,7 @@ struct Tally {
 const CLASSES: [&str; 4] = ["finite", "zero", "infinite", "NaN"];
 
 impl Tally {
-    fn add(&mut self, kind: &Kind, request: &[u64], answer: &[u64], region: &cases::Region) {
+    fn add(&mut self, kind: &Kind, request: &[u64], answer: &[u64], region: &Kept) {
         self.count += 1;
         let outcome = match kind.outcome {
             Outcome::Status => answer[0],
@@ -210,25 +211,37 @@ fn print_cases(tallies: &[Tally]) {
     }
 }
 
-/// A request that later answers rest on, by its row of `KINDS`.
+/// What later answers rest on: the request that made it and all edits since with their statuses,
+/// each by its row of `KINDS`.
 #[derive(Default)]
 struct Basis {
-    row: Option<usize>,
-    request: Vec<u64>,
+    made: Option<(usize, Vec<u64>)>,
+    edits: Vec<(usize, u64, Vec<u64>)>,
 }
 
 impl Basis {
     fn set(&mut self, row: usize, request: &[u64]) {
-        self.row = Some(row);
-        self.request.clear();
-        self.request.extend_from_slice(request);
+        self.made = Some((row, request.to_vec()));
+        self.edits.clear();
+    }
+
+    fn edit(&mut self, row: usize, status: u64, request: &[u64]) {
+        self.edits.push((row, status, request.to_vec()));
     }
 
     fn print(&self, title: &str) {
-        if let Some(row) = self.row {
-            let kind = &KINDS[row];
-            println!("{title}, by request {} {}:", kind.call as u64, kind.name);
-            print_lines(&describe_request(kind, &self.request), None);
+        let Some((row, request)) = &self.made else {
+            return;
+        };
+        let kind = &KINDS[*row];
+        println!("{title}, by request {} {}:", kind.call as u64, kind.name);
+        print_lines(&describe_request(kind, request), None);
+        for (row, status, request) in &self.edits {
+            let kind = &KINDS[*row];
+            let mut lines = describe_request(kind, request);
+            lines.insert(0, format!("status = {status}"));
+            let lines = lines.join(", ");
+            println!("then by {} {}: {lines}", kind.call as u64, kind.name);
         }
     }
 }
@@ -238,10 +251,9 @@ fn compare(requests: &str, a: &str, b: &str) -> Result<bool, String> {
     let mut a = Side::open(a)?;
     let mut b = Side::open(b)?;
     let mut request = Vec::new();
-    // The requests that made the zone and the region kept: what a later answer rests on.
     let mut zone = Basis::default();
     let mut region = Basis::default();
-    let mut edges = cases::Region::default();
+    let mut edges = Kept::default();
     let mut tallies = vec![Tally::default(); KINDS.len()];
     let mut compared: u64 = 0;
     let broken = loop {
@@ -264,7 +276,14 @@ fn compare(requests: &str, a: &str, b: &str) -> Result<bool, String> {
             print_lines(&describe_request(kind, &request), None);
             match kind.call {
                 Call::ZoneRest => zone.print("the zone kept"),
-                Call::Region
+                Call::Put
+                | Call::Insert
+                | Call::Remove
+                | Call::Turn
+                | Call::Hold
+                | Call::Rule
+                | Call::HoldLent
+                | Call::Region
                 | Call::Contains
                 | Call::ArcFirst
                 | Call::ArcAll
@@ -286,19 +305,17 @@ fn compare(requests: &str, a: &str, b: &str) -> Result<bool, String> {
             return Ok(false);
         }
         tallies[row].add(kind, &request, &a.answer, &edges);
-        if a.answer[0] == status::DONE {
-            match kind.call {
-                Call::ZoneNew => zone.set(row, &request),
-                Call::Build => {
-                    region.set(row, &request);
-                    edges = cases::Region::built(&request);
-                }
-                Call::RegionValue => {
-                    region.set(row, &request);
-                    edges = cases::Region::handed_in(&request);
-                }
-                _ => {}
+        let outcome = a.answer[0];
+        match kind.call {
+            Call::ZoneNew if outcome == status::DONE => zone.set(row, &request),
+            Call::Build | Call::RegionValue if outcome == status::DONE => {
+                region.set(row, &request);
             }
+            call if EDITS.contains(&call) => region.edit(row, outcome, &request),
+            _ => {}
+        }
+        if outcome == status::DONE {
+            edges.follow(kind.call, &request);
         }
         compared += 1;
     };

@@ -1,7 +1,7 @@
-//! The edges of a region as we read upstream: what generate aims at, and what compare's table of
-//! cases rests on. No answer comes from here.
+//! The region kept and its edges as we read upstream: what generate aims at, and what compare's
+//! table of cases rests on. No answer comes from here.
 
-use stream::{POINT_WORDS, VECTOR_WORDS};
+use stream::{MOST_POINTS, POINT_WORDS, VECTOR_WORDS};
 
 /// x, y, z, lon, lat.
 pub type Point = [f64; POINT_WORDS];
@@ -21,18 +21,69 @@ pub fn cross(a: &Vector, b: &Vector) -> Vector {
     ]
 }
 
-/// For each corner the normal of the edge that ends there.
-pub fn normals(corners: &[Point]) -> Vec<Vector> {
-    let starts = corners.last().into_iter().chain(corners);
-    starts
-        .zip(corners)
-        .map(|(start, end)| {
-            let normal = cross(&vector(start), &vector(end));
-            if normal[2] < 0.0 {
-                normal.map(|component| -component)
-            } else {
-                normal
-            }
-        })
-        .collect()
+/// The corners, and the normal of the edge that ends at each.
+#[derive(Default)]
+pub struct Kept {
+    pub corners: Vec<Point>,
+    pub normals: Vec<Vector>,
+}
+
+/// An edit that is refused for its index or for the count changes nothing.
+impl Kept {
+    pub fn built(corners: Vec<Point>) -> Self {
+        let starts = corners.last().into_iter().chain(&corners);
+        Kept {
+            normals: starts
+                .zip(&corners)
+                .map(|(start, end)| normal(start, end))
+                .collect(),
+            corners,
+        }
+    }
+
+    pub fn put(&mut self, index: u64, corner: Point) {
+        if index < self.corners.len() as u64 {
+            let at = index as usize;
+            self.corners[at] = corner;
+            self.bring_in(at);
+            self.bring_in(at + 1);
+        }
+    }
+
+    pub fn insert(&mut self, index: u64, corner: Point) {
+        let count = self.corners.len() as u64;
+        if index <= count && count < MOST_POINTS {
+            let at = index as usize;
+            self.corners.insert(at, corner);
+            self.normals.insert(at, [0.0; VECTOR_WORDS]);
+            self.bring_in(at);
+            self.bring_in(at + 1);
+        }
+    }
+
+    pub fn remove(&mut self, index: u64) {
+        let count = self.corners.len() as u64;
+        if index < count && count > 1 {
+            let at = index as usize;
+            self.corners.remove(at);
+            self.normals.remove(at);
+            self.bring_in(at);
+        }
+    }
+
+    /// Works out the normal of an edge; the one past the last is the first.
+    fn bring_in(&mut self, edge: usize) {
+        let count = self.corners.len();
+        let (start, end) = ((edge + count - 1) % count, edge % count);
+        self.normals[end] = normal(&self.corners[start], &self.corners[end]);
+    }
+}
+
+fn normal(start: &Point, end: &Point) -> Vector {
+    let normal = cross(&vector(start), &vector(end));
+    if normal[2] < 0.0 {
+        normal.map(|component| -component)
+    } else {
+        normal
+    }
 }

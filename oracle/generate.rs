@@ -1,17 +1,27 @@
 //! generate SEED COUNT: writes COUNT requests to standard output, the same ones for the same seed.
+//! generate SEED COUNT edits: writes COUNT lists of edits instead, each with what it starts from.
 //!
-//! Of a hundred requests that are drawn (`CALL_SHARES`)
+//! Of a hundred requests outside a list (`CALL_SHARES`)
 //!
-//! - 10 are builds and 2 region values; after every second one the region is asked for besides
-//!   (`REGION_SHARE`);
-//! - 16 ask whether a point is contained;
-//! - 19 are arcs: 7 first, 8 all, 4 is intersecting;
-//! - 8 are great circles;
-//! - 20 are parallels: 8 first, 8 all, 4 is intersecting;
-//! - 7 are roots, 4 new zones, 8 questions to the zone kept and 6 bounding cones.
+//! - 16 are builds and 4 region values; after every second one the region is asked for besides
+//!   (`REGION_SHARE`), and after some a list of edits begins (`LIST_AFTER_BUILD`,
+//!   `LIST_AFTER_FULL_BUILD`, `LIST_AFTER_VALUE`), so that about six requests of ten stand in lists;
+//! - 12 ask whether a point is contained;
+//! - 15 are arcs: 6 first, 6 all, 3 is intersecting;
+//! - 7 are great circles;
+//! - 16 are parallels: 6 first, 7 all, 3 is intersecting;
+//! - 8 are roots, 5 new zones, 9 questions to the zone kept and 8 bounding cones.
 //!
-//! Each question is asked once at the start, before there is a region or a zone. From then on it
-//! is aimed at the region that the builds and values so far have left.
+//! A list has 1 to 200 edits, whose shares stand in edits.rs. Of a hundred requests in it 40 are
+//! questions to the region (`QUESTION_SHARE`): 12 ask for the region, 12 whether a point is
+//! contained, 16 are arcs, great circles and parallels (`QUESTION_SHARES`).
+//!
+//! In a run of lists each starts from a build that is not refused or, 15 of a hundred, from a value
+//! (`VALUE_LIST_SHARE`). After 25 of a hundred edits the region is asked for (`REGION_AFTER_EDIT`),
+//! and after 25 whether a point is contained (`CONTAINS_AFTER_EDIT`).
+//!
+//! Each question and each edit is asked once at the start, before there is a region or a zone. From
+//! then on it is aimed at the region that the builds, values and edits so far have left.
 //!
 //! Of a hundred requests of each kind (`CLASS_SHARES`)
 //!
@@ -28,6 +38,7 @@
 
 mod draw;
 mod edges;
+mod edits;
 mod points;
 mod queries;
 mod regions;
@@ -37,9 +48,13 @@ use std::io::{self, BufWriter, Write};
 use std::process::ExitCode;
 
 use draw::{stepped, Class, Draw, LARGEST_SUBNORMAL, RAISED_NORTH, SMALLEST, SPECIAL};
+use edges::Kept;
+use edits::List;
 use points::{point_count, points, CountShare};
-use regions::{build, region_value, Kept};
-use stream::{write_word, zone_bounds_hold, Call, HALF_PI, POINT_BOUNDS, TWO_PI};
+use regions::{build, region_value, Build};
+use stream::{
+    within, write_word, zone_bounds_hold, Call, EDITS, HALF_PI, MOST_POINTS, POINT_BOUNDS, TWO_PI,
+};
 
 const CLASS_SHARES: [(Class, u64); 4] = [
     (Class::Good, 50),
@@ -49,23 +64,23 @@ const CLASS_SHARES: [(Class, u64); 4] = [
 ];
 
 const CALL_SHARES: [(Call, u64); 14] = [
-    (Call::Build, 10),
-    (Call::RegionValue, 2),
-    (Call::Contains, 16),
-    (Call::ArcFirst, 7),
-    (Call::ArcAll, 8),
-    (Call::IsIntersectingArc, 4),
-    (Call::GreatCircleAll, 8),
-    (Call::ParallelFirst, 8),
-    (Call::ParallelAll, 8),
-    (Call::IsIntersectingParallel, 4),
-    (Call::Root, 7),
-    (Call::ZoneNew, 4),
-    (Call::ZoneRest, 8),
-    (Call::BoundingCone, 6),
+    (Call::Build, 16),
+    (Call::RegionValue, 4),
+    (Call::Contains, 12),
+    (Call::ArcFirst, 6),
+    (Call::ArcAll, 6),
+    (Call::IsIntersectingArc, 3),
+    (Call::GreatCircleAll, 7),
+    (Call::ParallelFirst, 6),
+    (Call::ParallelAll, 7),
+    (Call::IsIntersectingParallel, 3),
+    (Call::Root, 8),
+    (Call::ZoneNew, 5),
+    (Call::ZoneRest, 9),
+    (Call::BoundingCone, 8),
 ];
 
-/// Asked before there is a zone or a region.
+/// Asked before there is a zone or a region, as are the edits.
 const FIRST_CALLS: [Call; 10] = [
     Call::Region,
     Call::Contains,
@@ -81,6 +96,41 @@ const FIRST_CALLS: [Call; 10] = [
 
 /// Of a hundred builds and region values after how many the region is asked for.
 const REGION_SHARE: u64 = 50;
+
+/// Of a hundred builds after how many a list of edits begins.
+const LIST_AFTER_BUILD: u64 = 14;
+
+/// The same of builds that leave a region of 63 or 64 corners.
+const LIST_AFTER_FULL_BUILD: u64 = 60;
+
+/// The same of region values.
+const LIST_AFTER_VALUE: u64 = 30;
+
+/// Of a hundred requests in a list how many are questions.
+const QUESTION_SHARE: u64 = 40;
+
+const QUESTION_SHARES: [(Call, u64); 9] = [
+    (Call::Region, 30),
+    (Call::Contains, 30),
+    (Call::ArcFirst, 6),
+    (Call::ArcAll, 7),
+    (Call::IsIntersectingArc, 3),
+    (Call::GreatCircleAll, 7),
+    (Call::ParallelFirst, 6),
+    (Call::ParallelAll, 8),
+    (Call::IsIntersectingParallel, 3),
+];
+
+// A run of lists of edits has its own shares.
+
+/// Of a hundred lists how many start from a region value.
+const VALUE_LIST_SHARE: u64 = 15;
+
+/// Of a hundred edits after how many the region is asked for.
+const REGION_AFTER_EDIT: u64 = 25;
+
+/// The same of whether a point is contained.
+const CONTAINS_AFTER_EDIT: u64 = 25;
 
 const CONE_SHARES: [CountShare; 9] = [
     ((0, 0), 20),
@@ -419,15 +469,26 @@ fn lon_inside(draw: &mut Draw, kept: &Bounds) -> f64 {
 }
 
 fn main() -> ExitCode {
-    let arguments: Vec<u64> = std::env::args()
-        .skip(1)
+    let arguments: Vec<String> = std::env::args().skip(1).collect();
+    let (numbers, lists) = match arguments.as_slice() {
+        [numbers @ .., last] if last == "edits" => (numbers, true),
+        numbers => (numbers, false),
+    };
+    let numbers: Vec<u64> = numbers
+        .iter()
         .map_while(|argument| argument.parse().ok())
         .collect();
-    let [seed, count] = arguments.as_slice() else {
-        eprintln!("usage: generate SEED COUNT");
+    let [seed, count] = numbers.as_slice() else {
+        eprintln!("usage: generate SEED COUNT, or generate SEED COUNT edits");
         return ExitCode::from(2);
     };
-    match generate(*seed, *count) {
+    let mut run = Run::new(*seed);
+    let written = if lists {
+        run.lists(*count)
+    } else {
+        run.requests(*count)
+    };
+    match written {
         Ok(()) => ExitCode::SUCCESS,
         Err(e) => {
             eprintln!("generate: {e}");
@@ -436,72 +497,179 @@ fn main() -> ExitCode {
     }
 }
 
-fn generate(seed: u64, count: u64) -> io::Result<()> {
-    let mut out = BufWriter::with_capacity(1 << 20, io::stdout().lock());
-    let mut draw = Draw { state: seed };
-    // Until a zone and a region are kept the questions draw on ones that no program was told.
-    let mut zone_kept = [1.0, -0.5, 2.0, 0.5];
-    let mut region = Kept::built(&points(&mut draw, Class::Good, 4));
-    let mut due: Vec<Call> = FIRST_CALLS.into_iter().rev().collect();
-    for _ in 0..count {
-        let call = match due.pop() {
-            Some(call) => call,
-            None => draw.by_share(&CALL_SHARES),
-        };
-        let class = draw.by_share(&CLASS_SHARES);
-        write_word(&mut out, call as u64)?;
-        match call {
-            Call::Build => {
-                let build = build(&mut draw, class);
-                write_word(&mut out, build.corners.len() as u64)?;
-                write_word(&mut out, build.rule)?;
-                write(&mut out, &build.control)?;
-                write_all(&mut out, &build.corners)?;
-                if let Some(kept) = build.kept() {
-                    region = kept;
+/// What is written to, what is drawn from, and what the requests so far have left.
+struct Run {
+    out: BufWriter<io::StdoutLock<'static>>,
+    draw: Draw,
+    zone: Bounds,
+    region: Kept,
+}
+
+impl Run {
+    fn new(seed: u64) -> Self {
+        let mut draw = Draw { state: seed };
+        Run {
+            out: BufWriter::with_capacity(1 << 20, io::stdout().lock()),
+            // Until a zone and a region are kept the questions draw on ones that no program was
+            // told.
+            zone: [1.0, -0.5, 2.0, 0.5],
+            region: Kept::built(points(&mut draw, Class::Good, 4)),
+            draw,
+        }
+    }
+
+    /// That many requests of all kinds.
+    fn requests(&mut self, count: u64) -> io::Result<()> {
+        let mut due: Vec<Call> = FIRST_CALLS.into_iter().chain(EDITS).rev().collect();
+        let mut list = List::empty();
+        for _ in 0..count {
+            let draw = &mut self.draw;
+            let call = match due.pop() {
+                Some(call) => call,
+                None if list.left == 0 => draw.by_share(&CALL_SHARES),
+                None if draw.percent(QUESTION_SHARE) => draw.by_share(&QUESTION_SHARES),
+                None => list.edit(draw, &self.region),
+            };
+            self.request(call)?;
+            let full = self.region.corners.len() as u64 >= MOST_POINTS - 1;
+            let begins = match call {
+                Call::Build if full => LIST_AFTER_FULL_BUILD,
+                Call::Build => LIST_AFTER_BUILD,
+                Call::RegionValue => LIST_AFTER_VALUE,
+                _ => continue,
+            };
+            let draw = &mut self.draw;
+            due.extend(draw.percent(REGION_SHARE).then_some(Call::Region));
+            if draw.percent(begins) {
+                list = List::mixed(draw);
+            }
+        }
+        self.out.flush()
+    }
+
+    /// That many lists of edits.
+    fn lists(&mut self, count: u64) -> io::Result<()> {
+        for _ in 0..count {
+            if self.draw.percent(VALUE_LIST_SHARE) {
+                self.request(Call::RegionValue)?;
+            } else {
+                let build = self.build_not_refused();
+                write_word(&mut self.out, Call::Build as u64)?;
+                self.write_build(build)?;
+            }
+            let mut list = List::uniform(&mut self.draw);
+            while list.left > 0 {
+                let edit = list.edit(&mut self.draw, &self.region);
+                self.request(edit)?;
+                for (question, share) in [
+                    (Call::Region, REGION_AFTER_EDIT),
+                    (Call::Contains, CONTAINS_AFTER_EDIT),
+                ] {
+                    if self.draw.percent(share) {
+                        self.request(question)?;
+                    }
                 }
-                due.extend(draw.percent(REGION_SHARE).then_some(Call::Region));
             }
-            Call::Region => {}
-            Call::Contains => {
-                write(&mut out, &queries::point(&mut draw, class, &region))?;
-            }
-            Call::ArcFirst | Call::ArcAll | Call::IsIntersectingArc => {
-                write_all(&mut out, &queries::arc(&mut draw, class, &region))?;
-            }
-            Call::GreatCircleAll => {
-                write(&mut out, &queries::great_circle(&mut draw, class, &region))?;
-            }
-            Call::ParallelFirst | Call::ParallelAll | Call::IsIntersectingParallel => {
-                write(&mut out, &queries::parallel(&mut draw, class, &region))?;
-            }
-            Call::Root => write(&mut out, &[root(&mut draw, class)])?,
-            Call::ZoneNew => {
-                let bounds = zone(&mut draw, class);
-                write(&mut out, &bounds)?;
-                let [lon_min, lat_min, lon_max, lat_max] = bounds;
-                if zone_bounds_hold(lon_min, lat_min, lon_max, lat_max) {
-                    zone_kept = bounds;
-                }
-            }
-            Call::ZoneRest => write(&mut out, &zone_rest(&mut draw, class, &zone_kept))?,
-            Call::BoundingCone => {
-                let count = point_count(&mut draw, &CONE_SHARES);
-                write_word(&mut out, count)?;
-                write_all(&mut out, &points(&mut draw, class, count))?;
-            }
-            Call::RegionValue => {
-                let value = region_value(&mut draw);
-                write_word(&mut out, value.count)?;
-                write_word(&mut out, value.flag)?;
-                write_all(&mut out, &value.corners)?;
-                write_all(&mut out, &value.normals)?;
-                region = value.kept();
-                due.extend(draw.percent(REGION_SHARE).then_some(Call::Region));
+        }
+        self.out.flush()
+    }
+
+    fn build_not_refused(&mut self) -> Build {
+        loop {
+            let class = self.draw.by_share(&CLASS_SHARES);
+            let build = build(&mut self.draw, class);
+            if build.kept().is_some() {
+                return build;
             }
         }
     }
-    out.flush()
+
+    fn request(&mut self, call: Call) -> io::Result<()> {
+        write_word(&mut self.out, call as u64)?;
+        let class = self.draw.by_share(&CLASS_SHARES);
+        let Run {
+            out,
+            draw,
+            zone: zone_kept,
+            region,
+        } = self;
+        match call {
+            Call::Build => {
+                let build = build(draw, class);
+                self.write_build(build)?;
+            }
+            Call::Put | Call::Insert => {
+                let index = edits::index(draw, region);
+                let corner = edits::corner(draw, class, region, index);
+                write_word(out, index)?;
+                write(out, &corner)?;
+                if within(&corner, &POINT_BOUNDS) {
+                    match call {
+                        Call::Put => region.put(index, corner),
+                        _ => region.insert(index, corner),
+                    }
+                }
+            }
+            Call::Remove => {
+                let index = edits::index(draw, region);
+                write_word(out, index)?;
+                region.remove(index);
+            }
+            Call::Turn | Call::Region => {}
+            Call::Rule => {
+                let (rule, control) = edits::rule(draw, class, region);
+                write_word(out, rule)?;
+                write(out, &control)?;
+            }
+            Call::Hold | Call::HoldLent | Call::Contains => {
+                write(out, &queries::point(draw, class, region))?;
+            }
+            Call::ArcFirst | Call::ArcAll | Call::IsIntersectingArc => {
+                write_all(out, &queries::arc(draw, class, region))?;
+            }
+            Call::GreatCircleAll => {
+                write(out, &queries::great_circle(draw, class, region))?;
+            }
+            Call::ParallelFirst | Call::ParallelAll | Call::IsIntersectingParallel => {
+                write(out, &queries::parallel(draw, class, region))?;
+            }
+            Call::Root => write(out, &[root(draw, class)])?,
+            Call::ZoneNew => {
+                let bounds = zone(draw, class);
+                write(out, &bounds)?;
+                let [lon_min, lat_min, lon_max, lat_max] = bounds;
+                if zone_bounds_hold(lon_min, lat_min, lon_max, lat_max) {
+                    *zone_kept = bounds;
+                }
+            }
+            Call::ZoneRest => write(out, &zone_rest(draw, class, zone_kept))?,
+            Call::BoundingCone => {
+                let count = point_count(draw, &CONE_SHARES);
+                write_word(out, count)?;
+                write_all(out, &points(draw, class, count))?;
+            }
+            Call::RegionValue => {
+                let value = region_value(draw);
+                write_word(out, value.count)?;
+                write_word(out, value.flag)?;
+                write_all(out, &value.corners)?;
+                write_all(out, &value.normals)?;
+                *region = value.kept();
+            }
+        }
+        Ok(())
+    }
+
+    fn write_build(&mut self, build: Build) -> io::Result<()> {
+        write_word(&mut self.out, build.corners.len() as u64)?;
+        write_word(&mut self.out, build.rule)?;
+        write(&mut self.out, &build.control)?;
+        write_all(&mut self.out, &build.corners)?;
+        if let Some(kept) = build.kept() {
+            self.region = kept;
+        }
+        Ok(())
+    }
 }
 
 /// A request's doubles keep their bits, those of a NaN as well.

@@ -21,7 +21,7 @@ const COPIED: [&str; 4] = ["mod.rs", "coo3d.rs", "zone.rs", "cone.rs"];
 /// Modules that mod.rs names and that no call of ours reaches.
 const EMPTY: [&str; 3] = ["elliptical_cone.rs", "frame.rs", "proj.rs"];
 
-const CHANGES: [Change; 8] = [
+const CHANGES: [Change; 9] = [
     // Seen from outside the crate, as coo3d already is.
     Change {
         file: "mod.rs",
@@ -49,6 +49,13 @@ const CHANGES: [Change; 8] = [
   pub cross_products: Box<[Vect3]>,
   pub contains_south_pole: bool,
 }",
+    },
+    // A pole rule is asked of a region that stands already.
+    Change {
+        file: "mod.rs",
+        times: 1,
+        from: "\ntrait ContainsSouthPoleComputer {",
+        to: "\npub trait ContainsSouthPoleComputer {",
     },
     // Sine and cosine come as arguments.
     Change {

@@ -8,12 +8,12 @@ use stream::{
 };
 
 use crate::draw::{Class, Draw, SMALLEST};
-use crate::edges::{cross, vector, Point, Vector};
+use crate::edges::{cross, vector, Kept, Point, Vector};
 use crate::points::{
     damage, length, opposite, point_at, point_of, raw_points, shrunk, somewhere, sum, unit,
     with_vector,
 };
-use crate::regions::{exact, Kept};
+use crate::regions::exact;
 
 /// A vector of some length in any direction.
 fn offset(draw: &mut Draw) -> Vector {

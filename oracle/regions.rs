@@ -1,4 +1,4 @@
-//! The builds and region values that generate makes, and the region that it aims its questions at.
+//! The builds and region values that generate makes, and the edges that it aims its questions at.
 
 use std::f64::consts::PI;
 
@@ -8,7 +8,7 @@ use stream::{
 };
 
 use crate::draw::{Class, Draw, LARGEST_SUBNORMAL, SMALLEST, SPECIAL};
-use crate::edges::{cross, normals, vector, Point, Vector};
+use crate::edges::{cross, vector, Kept, Point, Vector};
 use crate::points::{
     around, borderline_points, damage, good_points, opposite, point_at, point_count, point_of,
     raw_points, shrunk, somewhere, sum, with_vector, CountShare,
@@ -47,6 +47,9 @@ const VALUE_SHARES: [CountShare; 11] = [
 /// Of a hundred builds how many by each rule.
 const RULE_SHARES: [(u64, u64); 6] = [(0, 25), (1, 20), (2, 10), (3, 10), (4, 18), (5, 17)];
 
+/// Of a hundred control points that are not read how many are random patterns.
+pub const UNREAD_SHARE: u64 = 60;
+
 /// Values that no build gives are what they are there for.
 const VALUE_CLASS_SHARES: [(Class, u64); 4] = [
     (Class::Good, 25),
@@ -58,13 +61,7 @@ const VALUE_CLASS_SHARES: [(Class, u64); 4] = [
 /// A flag is set by any word but 0.
 const FLAGS: [u64; 10] = [0, 0, 0, 0, 1, 1, 1, 2, 1 << 32, u64::MAX];
 
-/// A region as generate knows it.
-pub struct Kept {
-    corners: Vec<Point>,
-    normals: Vec<Vector>,
-}
-
-/// An edge of it.
+/// An edge of the region kept.
 pub struct Edge {
     pub start: Point,
     pub end: Point,
@@ -72,13 +69,6 @@ pub struct Edge {
 }
 
 impl Kept {
-    pub fn built(corners: &[Point]) -> Self {
-        Kept {
-            corners: corners.to_vec(),
-            normals: normals(corners),
-        }
-    }
-
     pub fn corner(&self, draw: &mut Draw) -> Point {
         draw.pick(&self.corners)
     }
@@ -168,7 +158,7 @@ impl Build {
         let taken = (1..=MOST_POINTS).contains(&(self.corners.len() as u64))
             && self.corners.iter().all(legal)
             && (self.rule < CONTROL_POINT_IN || legal(&self.control));
-        taken.then(|| Kept::built(&self.corners))
+        taken.then(|| Kept::built(self.corners.clone()))
     }
 }
 
@@ -181,7 +171,7 @@ pub fn build(draw: &mut Draw, class: Class) -> Build {
         [] => somewhere(draw),
         // A long list is refused whatever stands in it.
         some => {
-            let kept = Kept::built(&some[..some.len().min(MOST_POINTS as usize)]);
+            let kept = Kept::built(some[..some.len().min(MOST_POINTS as usize)].to_vec());
             let aim = match class {
                 Class::Damaged => Class::Good,
                 _ => class,
@@ -189,7 +179,7 @@ pub fn build(draw: &mut Draw, class: Class) -> Build {
             queries::point(draw, aim, &kept)
         }
     };
-    if !reads_control && draw.percent(60) {
+    if !reads_control && draw.percent(UNREAD_SHARE) {
         control = draw.raws();
     }
     if let Class::Damaged = class {
@@ -385,13 +375,17 @@ fn flat_belt(draw: &mut Draw, count: u64) -> Vec<Point> {
     corners
 }
 
-/// Moves one corner to where an edge or a case ends.
+/// Bends one corner.
 fn bend(draw: &mut Draw, corners: &mut [Point]) {
     let count = corners.len();
     let at = draw.index(count);
     let before = corners[(at + count - 1) % count];
     let other = draw.pick(corners);
-    let corner = &mut corners[at];
+    corners[at] = bent(draw, corners[at], before, other);
+}
+
+/// A corner moved to where an edge or a case ends, given the one before it and any other.
+pub fn bent(draw: &mut Draw, mut corner: Point, before: Point, other: Point) -> Point {
     let lons = [
         0.0,
         -0.0,
@@ -405,17 +399,17 @@ fn bend(draw: &mut Draw, corners: &mut [Point]) {
         other[3],
     ];
     match draw.below(13) {
-        0 => *corner = before,
-        1 => *corner = other,
+        0 => corner = before,
+        1 => corner = other,
         2 | 3 => corner[3] = draw.near_one_of(&lons),
-        4 => *corner = point_at(draw.near_one_of(&lons), corner[4]),
+        4 => corner = point_at(draw.near_one_of(&lons), corner[4]),
         5 => {
             let lats = [0.0, -0.0, HALF_PI, -HALF_PI, before[4], other[4]];
             corner[4] = draw.near_one_of(&lats);
         }
         6 => {
             let z = draw.either_sign(1.0);
-            *corner = [draw.either_sign(0.0), 0.0, z, corner[3], z * HALF_PI];
+            corner = [draw.either_sign(0.0), 0.0, z, corner[3], z * HALF_PI];
         }
         7 => {
             corner[2] = draw.either_sign(0.0);
@@ -423,14 +417,14 @@ fn bend(draw: &mut Draw, corners: &mut [Point]) {
         }
         // The normal is zero, and the latitudes differ.
         8 => {
-            *corner = before;
+            corner = before;
             corner[4] = draw.between(-HALF_PI, HALF_PI);
         }
-        9 => *corner = opposite(&before),
-        10 => *corner = exact(draw),
+        9 => corner = opposite(&before),
+        10 => corner = exact(draw),
         11 => {
             let factor = draw.pick(&[0.5, 2.0, 1e-3, 1e-80, 1e-160]);
-            *corner = with_vector(corner, &vector(corner).map(|c| c * factor));
+            corner = with_vector(&corner, &vector(&corner).map(|c| c * factor));
         }
         _ => {
             let field = draw.index(POINT_WORDS);
@@ -438,6 +432,7 @@ fn bend(draw: &mut Draw, corners: &mut [Point]) {
             corner[field] = draw.near_one_of(&[least, greatest]);
         }
     }
+    corner
 }
 
 // Region values
@@ -469,7 +464,7 @@ pub fn region_value(draw: &mut Draw) -> Value {
     let Kept {
         mut corners,
         mut normals,
-    } = Kept::built(&corners);
+    } = Kept::built(corners);
     match class {
         Class::Good => {}
         Class::Borderline => {

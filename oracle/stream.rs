@@ -65,6 +65,7 @@ pub mod status {
     pub const OUTSIDE_DOMAIN: u64 = 1;
     pub const NONE_GIVEN: u64 = 2;
     pub const TOO_MANY: u64 = 3;
+    pub const NO_SUCH_INDEX: u64 = 4;
     pub const NO_PARALLEL: u64 = 5;
     pub const NOT_FINITE: u64 = 6;
     pub const TOO_SHORT: u64 = 8;
@@ -103,6 +104,13 @@ pub fn zone_bounds_hold(lon_min: f64, lat_min: f64, lon_max: f64, lat_max: f64) 
 #[repr(u64)]
 pub enum Call {
     Build = 1,
+    Put = 2,
+    Insert = 3,
+    Remove = 4,
+    Turn = 5,
+    Hold = 6,
+    Rule = 7,
+    HoldLent = 8,
     Region = 9,
     Contains = 10,
     ArcFirst = 11,
@@ -119,6 +127,17 @@ pub enum Call {
     RegionValue = 26,
 }
 
+/// The calls that change the region kept; a refused one leaves it.
+pub const EDITS: [Call; 7] = [
+    Call::Put,
+    Call::Insert,
+    Call::Remove,
+    Call::Turn,
+    Call::Hold,
+    Call::Rule,
+    Call::HoldLent,
+];
+
 /// A group of words in a request or an answer.
 pub enum Part {
     Double(&'static str),
@@ -128,6 +147,8 @@ pub enum Part {
     Flag(&'static str),
     /// A rule's number.
     Rule(&'static str),
+    /// Any number: a corner's place.
+    Index(&'static str),
     /// How many entries the lists after it have.
     Count(&'static str),
     /// The same, but 0 or 1.
@@ -173,6 +194,10 @@ pub struct Kind {
     pub answer: &'static [Part],
 }
 
+const PLACE: &[Part] = &[Part::Index("i"), Part::Points("point", Entries::One)];
+
+const POINT: &[Part] = &[Part::Points("point", Entries::One)];
+
 const ARC: &[Part] = &[
     Part::Points("a", Entries::One),
     Part::Points("b", Entries::One),
@@ -210,6 +235,58 @@ pub const KINDS: &[Kind] = &[
         answer: &[],
     },
     Kind {
+        call: Call::Put,
+        name: "put",
+        request: PLACE,
+        outcome: Outcome::Status,
+        answer: &[],
+    },
+    Kind {
+        call: Call::Insert,
+        name: "insert",
+        request: PLACE,
+        outcome: Outcome::Status,
+        answer: &[],
+    },
+    Kind {
+        call: Call::Remove,
+        name: "remove",
+        request: &[Part::Index("i")],
+        outcome: Outcome::Status,
+        answer: &[],
+    },
+    Kind {
+        call: Call::Turn,
+        name: "turn",
+        request: &[],
+        outcome: Outcome::Status,
+        answer: &[],
+    },
+    Kind {
+        call: Call::Hold,
+        name: "hold, by value",
+        request: POINT,
+        outcome: Outcome::Status,
+        answer: &[],
+    },
+    Kind {
+        call: Call::Rule,
+        name: "rule",
+        request: &[
+            Part::Rule("rule"),
+            Part::Points("control point", Entries::One),
+        ],
+        outcome: Outcome::Status,
+        answer: &[],
+    },
+    Kind {
+        call: Call::HoldLent,
+        name: "hold, on the lent region",
+        request: POINT,
+        outcome: Outcome::Status,
+        answer: &[],
+    },
+    Kind {
         call: Call::Region,
         name: "the region",
         request: &[],
@@ -224,7 +301,7 @@ pub const KINDS: &[Kind] = &[
     Kind {
         call: Call::Contains,
         name: "contains",
-        request: &[Part::Points("point", Entries::One)],
+        request: POINT,
         outcome: Outcome::Status,
         answer: &[Part::YesNo("contains")],
     },
@@ -563,6 +640,7 @@ fn describe(parts: &[Part], words: &[u64]) -> Vec<String> {
             | Part::YesNo(name)
             | Part::Flag(name)
             | Part::Rule(name)
+            | Part::Index(name)
             | Part::Count(name)
             | Part::Found(name)
             | Part::InUse(name) => {

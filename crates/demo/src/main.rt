@@ -1,4 +1,5 @@
-// The example: a region across the meridian 0 with fixes in it and round it, where its outline meets a parallel, a zone, a bounding cone, and refusals.
+// The example: a region across the meridian 0 with fixes in it and round it, where its outline meets a parallel, edits of it, a zone, a bounding cone,
+// and refusals.
 use cone::ConeAnswer;
 use coo3d::Coo3D;
 use libc::STDOUT_FILENO;
@@ -40,18 +41,18 @@ fn tell_fix(fix: &[u8], r: Region, p: Coo3D) {
     }
 }
 
+fn western_fix() -> Coo3D {
+    Coo3D {
+        x: 0.6194605013109836,
+        y: -0.05164920104901239,
+        z: 0.7833269096274834,
+        lon: 6.2,
+        lat: 0.9,
+    }
+}
+
 fn tell_region(r: Region) {
-    tell_fix(
-        b"longitude 6.2, latitude 0.9",
-        r,
-        Coo3D {
-            x: 0.6194605013109836,
-            y: -0.05164920104901239,
-            z: 0.7833269096274834,
-            lon: 6.2,
-            lat: 0.9,
-        },
-    );
+    tell_fix(b"longitude 6.2, latitude 0.9", r, western_fix());
     tell_fix(
         b"longitude 0.1, latitude 0.9",
         r,
@@ -119,6 +120,32 @@ fn tell_region(r: Region) {
     say(b"\n");
 }
 
+fn tell_outcome(outcome: Outcome) {
+    match outcome {
+        Outcome::Done => say(b"  done\n"),
+        Outcome::Refused(cause) => tell_refusal(cause),
+    }
+}
+
+fn tell_edits(r: Region, corner: Coo3D) {
+    say(b"corner 0 removed");
+    let removed = edits::remove(r, 0);
+    let triangle = removed.region;
+    let removal = removed.outcome;
+    tell_outcome(removal);
+    tell_fix(b"longitude 6.2, latitude 0.9", triangle, western_fix());
+    say(b"and inserted again");
+    let inserted = edits::insert(triangle, 0, corner);
+    let again = inserted.region;
+    let insertion = inserted.outcome;
+    tell_outcome(insertion);
+    tell_fix(b"longitude 6.2, latitude 0.9", again, western_fix());
+    say(b"corner 7 removed");
+    let missing = edits::remove(again, 7);
+    let refused = missing.outcome;
+    tell_outcome(refused);
+}
+
 fn tell_regions() {
     say(b"region: four corners across the meridian 0\n");
     let c0 = Coo3D {
@@ -159,16 +186,14 @@ fn tell_regions() {
         Outcome::Done => {
             let r = built.region;
             tell_region(r);
+            tell_edits(r, c0);
         }
         Outcome::Refused(cause) => tell_refusal(cause),
     }
     say(b"a region of 65 corners");
     let many = region::build(points, 65, ContainsSouthPoleMethod::Default);
     let refused = many.outcome;
-    match refused {
-        Outcome::Done => say(b"  made\n"),
-        Outcome::Refused(cause) => tell_refusal(cause),
-    }
+    tell_outcome(refused);
 }
 
 fn tell_fixes(zone: Zone) {

@@ -8,10 +8,11 @@ use lib.Ieee.{nan}
 use lib.ListN.{length, take, drop, getD, length-take}
 use Rattle.coo3d.specs.declared.Coo3D.{Coo3D}
 use Rattle.coo3d.specs.declared.Vect3.{Vect3}
+use Rattle.lists.specs.Cyclic.{lastOf}
 use Rattle.lists.proofs.Passing.{next-left, none-left}
 use Rattle.region.specs.declared.Region.{Region}
 use Rattle.region.specs.Edges.{Edge}
-use Rattle.region.specs.View.{viewOf, nowhere, lastOf, edgesFrom, edgesOf}
+use Rattle.region.specs.View.{viewOf, nowhere, edgesFrom, edgesOf}
 
 abbrev pub nothing : Vect3
 nothing = record { x = nan; y = nan; z = nan }

@@ -4,9 +4,10 @@ use mathlib.Core.List.{List, [], _∷_}
 use lib.Ieee.{Float, lt, le}
 use Rattle.coo3d.specs.declared.Coo3D.{Coo3D}
 use Rattle.float.specs.Doubles.{_⊕_, _⊖_, nought, pi, twoPi, absOf}
+use Rattle.lists.specs.Cyclic.{lastOf}
 use Rattle.region.specs.declared.ContainsSouthPoleMethod.{ContainsSouthPoleMethod}
 use Rattle.region.specs.declared.ContainsSouthPoleMethod.the-variants.{Default, DefaultComplement, ContainsSouthPole, DoNotContainsSouthPole, ControlPointIn, ControlPointOut}
-use Rattle.region.specs.View.{View, nowhere, lastOf, oddAt}
+use Rattle.region.specs.View.{View, nowhere, oddAt}
 
 -- `Basic`: the sum of longitude steps, one that crosses the seam taken the short way round
 unfoldable pub stepOf : Float → Float → Float

@@ -6,6 +6,7 @@ use lib.Ieee.{nan}
 use lib.ListN.{length, take}
 use Rattle.coo3d.specs.declared.Coo3D.{Coo3D}
 use Rattle.coo3d.specs.declared.Vect3.{Vect3}
+use Rattle.lists.specs.Cyclic.{lastOf, along}
 use Rattle.region.specs.declared.Region.{Region}
 use Rattle.region.specs.Edges.{Edge, normalOf, isCounted}
 
@@ -32,10 +33,6 @@ withFlag v flag = record { count = v .count; corners = v .corners; normals = v .
 -- the last corner; `nowhere` is read only where there is none
 abbrev pub nowhere : Coo3D
 nowhere = record { x = nan; y = nan; z = nan; lon = nan; lat = nan }
-
-unfoldable pub lastOf : {A : Type 0} → A → List A → A
-lastOf d [] = d
-lastOf d (a ∷ rest) = lastOf a rest
 
 -- each edge runs from the corner before to the next, the first from `from`
 unfoldable pub edgesFrom : Coo3D → List Coo3D → List Vect3 → List Edge
@@ -66,12 +63,9 @@ contained p v = exactlyOne (v .flag) (oddAt p v)
 
 -- ---- a region made of a list of corners
 
-unfoldable pub normalsFrom : Coo3D → List Coo3D → List Vect3
-normalsFrom from [] = []
-normalsFrom from (c ∷ cs) = normalOf from c ∷ normalsFrom c cs
-
+-- each edge's normal, by its start and end
 unfoldable pub normalsOf : List Coo3D → List Vect3
-normalsOf cs = normalsFrom (lastOf nowhere cs) cs
+normalsOf cs = along normalOf (lastOf nowhere cs) cs
 
 -- the corners with their edges' normals, and a flag
 abbrev pub made : List Coo3D → Bool → View

@@ -1,5 +1,7 @@
 // Answers a stream of requests on standard input with a stream of answers on standard output (docs/COMPARISON.md has both): decodes, calls the
 // library's public functions, encodes.
+ghost use Rattle.edits.specs.Edits.{Edited};
+ghost use Rattle.edits.specs.Edits as edit;
 use cone::Cone;
 use cone::ConeAnswer;
 use coo3d::Coo3D;
@@ -8,6 +10,7 @@ use coo3d::UnitVect3;
 use coo3d::Vect3;
 use crossings::AllAnswer;
 use crossings::FirstAnswer;
+use edits::EditAnswer;
 use refusal::Cause;
 use refusal::Decision;
 use refusal::Outcome;
@@ -163,15 +166,24 @@ fn rule_of(number: u64, control_point: Coo3D) -> Rule {
     }
 }
 
-fn put_built(s: State, t: Stream, out: &mut [u8; 65536], built: Built) -> State {
-    let outcome = built.outcome;
+// The region kept is the one given, where the call was done.
+fn put_outcome(
+    s: State,
+    t: Stream,
+    out: &mut [u8; 65536],
+    region: Region,
+    outcome: Outcome,
+) -> State {
     match outcome {
         Outcome::Refused(cause) => with_stream(s, put_refusal(t, out, cause)),
-        Outcome::Done => {
-            let region = built.region;
-            with_region(s, region, stream::put(t, out, 0))
-        }
+        Outcome::Done => with_region(s, region, stream::put(t, out, 0)),
     }
+}
+
+fn put_built(s: State, t: Stream, out: &mut [u8; 65536], built: Built) -> State {
+    let region = built.region;
+    let outcome = built.outcome;
+    put_outcome(s, t, out, region, outcome)
 }
 
 // 1
@@ -198,6 +210,107 @@ fn answer_build(s: State, input: &mut [u8; 65536], out: &mut [u8; 65536]) -> Sta
     }
     let values = points.values;
     put_built(s, t, out, region::build(values, count as usize, method))
+}
+
+fn put_edited(s: State, t: Stream, out: &mut [u8; 65536], answer: EditAnswer) -> State {
+    let region = answer.region;
+    let outcome = answer.outcome;
+    put_outcome(s, t, out, region, outcome)
+}
+
+// 2, 3
+fn answer_put(s: State, number: u64, input: &mut [u8; 65536], out: &mut [u8; 65536]) -> State {
+    let before = s.stream;
+    let index = stream::get(before, input);
+    let after_index = index.stream;
+    let corner = stream::get_point(after_index, input);
+    let t = corner.stream;
+    if t.ended {
+        return with_stream(s, t);
+    }
+    let r = s.region;
+    let p = corner.value;
+    let i = index.value as usize;
+    if number == 2 {
+        return put_edited(s, t, out, edits::put(r, i, p));
+    }
+    put_edited(s, t, out, edits::insert(r, i, p))
+}
+
+// 4
+fn answer_remove(s: State, input: &mut [u8; 65536], out: &mut [u8; 65536]) -> State {
+    let before = s.stream;
+    let index = stream::get(before, input);
+    let t = index.stream;
+    if t.ended {
+        return with_stream(s, t);
+    }
+    let r = s.region;
+    put_edited(s, t, out, edits::remove(r, index.value as usize))
+}
+
+// 5
+fn answer_turn(s: State, out: &mut [u8; 65536]) -> State {
+    let t = s.stream;
+    let r = s.region;
+    put_edited(s, t, out, edits::turn(r))
+}
+
+// The region is lent for the call.
+fn hold_on_lent(r: Region, coo: Coo3D) -> EditAnswer
+    ensures { λ a. ⌜ Edited (edit.hold coo) r a ⌝ }
+{
+    let mut lent = r;
+    let outcome = edits::hold_lent(&mut lent, coo);
+    EditAnswer {
+        region: lent,
+        outcome,
+    }
+}
+
+// 6, 8
+fn answer_hold(s: State, number: u64, input: &mut [u8; 65536], out: &mut [u8; 65536]) -> State {
+    let before = s.stream;
+    let point = stream::get_point(before, input);
+    let t = point.stream;
+    if t.ended {
+        return with_stream(s, t);
+    }
+    let r = s.region;
+    let coo = point.value;
+    if number == 6 {
+        return put_edited(s, t, out, edits::hold(r, coo));
+    }
+    put_edited(s, t, out, hold_on_lent(r, coo))
+}
+
+// 7
+fn answer_rule(s: State, input: &mut [u8; 65536], out: &mut [u8; 65536]) -> State {
+    let before = s.stream;
+    let number = stream::get(before, input);
+    let after_number = number.stream;
+    let control = stream::get_point(after_number, input);
+    let t = control.stream;
+    if t.ended {
+        return with_stream(s, t);
+    }
+    let control_point = control.value;
+    let Rule::Method(method) = rule_of(number.value, control_point) else {
+        return with_stream(s, stream::end(t));
+    };
+    let r = s.region;
+    put_edited(s, t, out, edits::rule(r, method))
+}
+
+// The answer to an edit.
+fn answer_edit(s: State, number: u64, input: &mut [u8; 65536], out: &mut [u8; 65536]) -> State {
+    match number {
+        2 | 3 => answer_put(s, number, input, out),
+        4 => answer_remove(s, input, out),
+        5 => answer_turn(s, out),
+        7 => answer_rule(s, input, out),
+        _ => answer_hold(s, number, input, out),
+    }
 }
 
 fn put_corners(s: Stream, out: &mut [u8; 65536], r: Region) -> Stream {
@@ -517,17 +630,16 @@ fn step(s: State, input: &mut [u8; 65536], out: &mut [u8; 65536]) -> State {
     let t = request.stream;
     let here = with_stream(s, t);
     let number = request.value;
-    if number == 1 {
-        return answer_build(here, input, out);
+    match number {
+        1 => answer_build(here, input, out),
+        2..=8 => answer_edit(here, number, input, out),
+        23 => answer_zone_new(here, input, out),
+        26 => answer_value(here, input, out),
+        _ => {
+            let after = answer(here, number, input, out);
+            with_stream(here, after)
+        }
     }
-    if number == 23 {
-        return answer_zone_new(here, input, out);
-    }
-    if number == 26 {
-        return answer_value(here, input, out);
-    }
-    let after = answer(here, number, input, out);
-    with_stream(here, after)
 }
 
 // A proved loop has to end, and nothing says that the input does: the turns are counted down from a number that no run uses up.

@@ -5,14 +5,16 @@ use mathlib.Core.Path.{_≡_, refl, sym, _∙_}
 use mathlib.Core.List.{_++_}
 use borrow.Author.Needs.{needs}
 use lib.ListN.{length, take, drop, length-set}
-use Rattle.region.specs.View.{normalsFrom, normalsOf}
+use Rattle.region.specs.View.{normalsOf}
+use Rattle.region.specs.Edges.{normalOf}
+use Rattle.lists.specs.Cyclic.{along}
 use Rattle.region.proofs.Corners.{normals-start, normals-turn, normals-done}
 use Rattle.region.proofs.compute_cross_products.Statement.{statement}
 use Rattle.region.proofs.compute_cross_products.Tie as tie
 
 abbrev Inv-loop : tie.InvT-loop
 Inv-loop count vertices out₀ last from₀ i₀ out from i =
-    (i ≤ count) × ((length out ≡ 64) × (take i out ++ normalsFrom from (drop i (take count vertices)) ≡ normalsOf (take count vertices)))
+    (i ≤ count) × ((length out ≡ 64) × (take i out ++ along normalOf from (drop i (take count vertices)) ≡ normalsOf (take count vertices)))
 
 abbrev μ-loop : tie.MeasureT-loop
 μ-loop count vertices out₀ last from₀ i₀ out from i = count - i

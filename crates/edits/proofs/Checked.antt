@@ -1,0 +1,162 @@
+-- What the table says of each edit, and what makes an edit's answer. Assumes nothing.
+use Prim.Native.Nat.{ℕ, _≤_, _<_}
+use native.Mathlib.Omega.{arith}
+use mathlib.Core.Path.{_≡_, refl, sym, ap, _∙_}
+use mathlib.Core.Logic.{⊎-elim}
+use mathlib.Core.Bool.{Bool, true, false, not, cond}
+use mathlib.Core.List.{List, [], _∷_}
+use lib.Dec.{eqb, ltb}
+use borrow.Author.Tests.{eq-eqb, ne-eqb, le-ltb, lt-ltb}
+use Rattle.coo3d.specs.declared.Coo3D.{Coo3D}
+use Rattle.domain.specs.Checks.{pointAt, withCount}
+use Rattle.domain.proofs.Counts.{count-none, count-many, count-few}
+use Rattle.domain.proofs.Points.{point-refused}
+use Rattle.lists.proofs.Cyclic.{same-or-not}
+use Rattle.refusal.specs.Answer.{Answer, answered, refused, refusedFor, refuseIf, andThen, outcomeOf}
+use Rattle.refusal.specs.declared.Cause.{Cause}
+use Rattle.refusal.specs.declared.Outcome.the-variants.{Done, Refused}
+use Rattle.refusal.proofs.Answers.{never}
+use Rattle.region.specs.declared.Region.{Region}
+use Rattle.region.specs.declared.ContainsSouthPoleMethod.{ContainsSouthPoleMethod}
+use Rattle.region.specs.View.{View, viewOf, withFlag, contained}
+use Rattle.region.specs.Poles.{ruleFlag}
+use Rattle.region.specs.Region.{ruleAt, containsOf, flagOf}
+use Rattle.edits.specs.declared.EditAnswer.{EditAnswer}
+use Rattle.edits.specs.Edits.{Edit, put, insert, remove, turn, hold, rule, checked, changed, editOf, Edited}
+
+-- ---- answers
+
+module _ (e : Edit) (r : Region) (a : EditAnswer) where
+  pub refused-edit : (cause : Cause) → a ≡ record { region = r; outcome = Refused cause } → editOf e (viewOf r) ≡ refusedFor cause → Edited e r a
+  refused-edit cause is t = record { answer = rw (is, t); kept = λ k o. rw is }
+
+  pub done-edit : a .outcome ≡ Done → editOf e (viewOf r) ≡ answered (viewOf (a .region)) → Edited e r a
+  done-edit o t = record { answer = rw (o, t); kept = λ cause q. never {A = View} (ap (λ x. outcomeOf x (viewOf r)) (sym q ∙ o)) }
+
+module _ (e : Edit) (v : View) where
+  pub refused-by : (number : ℕ) (values : List ℕ) → checked (v .count) e ≡ refused number values → editOf e v ≡ refused number values
+  unfolding editOf
+  refused-by number values t = rw t
+
+  pub done-by : (k : Edit) (w : View) → checked (v .count) e ≡ answered k → w ≡ changed k v → editOf e v ≡ answered w
+  unfolding editOf
+  done-by k w t is = rw (t, is)
+
+-- ---- the count
+
+pub checked-none : (n : ℕ) (e : Edit) → n ≡ 0 → checked n e ≡ refused 2 []
+unfolding checked
+checked-none n (put i p) z = count-none n _ z
+checked-none n (insert i p) z = count-none n _ z
+checked-none n (remove i) z = count-none n _ z
+checked-none n turn z = count-none n _ z
+checked-none n (hold p) z = count-none n _ z
+checked-none n (rule m) z = count-none n _ z
+
+pub checked-many : (n : ℕ) (e : Edit) → (n ≡ 0 → ⊥) → 64 < n → checked n e ≡ refused 3 []
+unfolding checked
+checked-many n (put i p) z h = count-many n _ z h
+checked-many n (insert i p) z h = count-many n _ z h
+checked-many n (remove i) z h = count-many n _ z h
+checked-many n turn z h = count-many n _ z h
+checked-many n (hold p) z h = count-many n _ z h
+checked-many n (rule m) z h = count-many n _ z h
+
+-- ---- then the rest, for 1 to 64 corners
+
+module _ (n : ℕ) (some : n ≡ 0 → ⊥) (few : n ≤ 64) where
+  pub turn-done : checked n turn ≡ answered turn
+  unfolding checked
+  turn-done = count-few n _ some few
+
+  module _ (i : ℕ) (p : Coo3D) where
+    pub put-index : n ≤ i → checked n (put i p) ≡ refused 4 []
+    unfolding checked
+    put-index h = rw (count-few n _ some few, le-ltb _ _ h)
+
+    pub put-point : i < n → (k : ℕ) (vs : List ℕ) → refused k vs ≡ pointAt 0 p → checked n (put i p) ≡ refused 1 (0 ∷ [])
+    unfolding checked
+    put-point h k vs e = rw (count-few n _ some few, lt-ltb i n h, point-refused 0 p k vs e)
+
+    pub put-done : i < n → (q : Coo3D) → answered q ≡ pointAt 0 p → checked n (put i p) ≡ answered (put i q)
+    unfolding checked
+    put-done h q e = rw (count-few n _ some few, lt-ltb i n h, sym e)
+
+  module _ (i : ℕ) (several : n ≡ 1 → ⊥) where
+    pub remove-index : n ≤ i → checked n (remove i) ≡ refused 4 []
+    unfolding checked
+    remove-index h = rw (count-few n _ some few, ne-eqb n 1 several, le-ltb _ _ h)
+
+    pub remove-done : i < n → checked n (remove i) ≡ answered (remove i)
+    unfolding checked
+    remove-done h = rw (count-few n _ some few, ne-eqb n 1 several, lt-ltb i n h)
+
+module _ (n : ℕ) (some : n ≡ 0 → ⊥) (room : n < 64) (i : ℕ) (p : Coo3D) where
+  abbrev few : n ≤ 64
+  few = omega arith
+
+  abbrev not-full : n ≡ 64 → ⊥
+  not-full = λ z. omega arith
+
+  pub insert-index : n < i → checked n (insert i p) ≡ refused 4 []
+  unfolding checked
+  insert-index h = rw (count-few n _ some few, ne-eqb n 64 not-full, lt-ltb n i h)
+
+  pub insert-point : i ≤ n → (k : ℕ) (vs : List ℕ) → refused k vs ≡ pointAt 0 p → checked n (insert i p) ≡ refused 1 (0 ∷ [])
+  unfolding checked
+  insert-point h k vs e = rw (count-few n _ some few, ne-eqb n 64 not-full, le-ltb _ _ h, point-refused 0 p k vs e)
+
+  pub insert-done : i ≤ n → (q : Coo3D) → answered q ≡ pointAt 0 p → checked n (insert i p) ≡ answered (insert i q)
+  unfolding checked
+  insert-done h q e = rw (count-few n _ some few, ne-eqb n 64 not-full, le-ltb _ _ h, sym e)
+
+-- the 65th corner, and a count that never was one, are both 3
+pub insert-full : (n i : ℕ) (p : Coo3D) → (n ≡ 0 → ⊥) → 64 ≤ n → checked n (insert i p) ≡ refused 3 []
+unfolding checked
+insert-full n i p some h =
+    ⊎-elim
+    (λ (e : n ≡ 64). let few : n ≤ 64 = omega arith in rw (count-few n _ some few, eq-eqb n 64 e))
+    (λ (e : n ≡ 64 → ⊥). let more : 64 < n = omega arith in count-many n _ some more)
+    (same-or-not n 64)
+
+-- no corner, and the only corner, are both 2
+pub remove-few : (n i : ℕ) → n ≤ 1 → checked n (remove i) ≡ refused 2 []
+unfolding checked
+remove-few n i h =
+    ⊎-elim
+    (λ (e : n ≡ 0). count-none n _ e)
+    (λ (e : n ≡ 0 → ⊥). let one : n ≡ 1 = omega arith in let few : n ≤ 64 = omega arith in rw (count-few n _ e few, eq-eqb n 1 one))
+    (same-or-not n 0)
+
+-- ---- hold and rule, from what the region answers
+
+module _ {A : Type 0} (v : View) (k : A → Edit) (of : A → Bool) (flag : Bool → Bool) (same : (a : A) → changed (k a) v ≡ withFlag v (flag (of a))) where
+  by-flag : (n : ℕ) (x : Answer A) → andThen (withCount n (andThen x (λ a. answered (k a)))) (λ e. answered (changed e v)) ≡ andThen (withCount n (andThen x (λ a. answered (of a)))) (λ b. answered (withFlag v (flag b)))
+  by-flag n x = go (eqb n 0) (ltb 64 n) x
+    where
+      go : (none many : Bool) (y : Answer A) → andThen (refuseIf none 2 [] (refuseIf many 3 [] (andThen y (λ a. answered (k a))))) (λ e. answered (changed e v)) ≡ andThen (refuseIf none 2 [] (refuseIf many 3 [] (andThen y (λ a. answered (of a))))) (λ b. answered (withFlag v (flag b)))
+      go true many y = refl
+      go false true y = refl
+      go false false (answered a) = ap answered (same a)
+      go false false (refused number values) = refl
+
+module _ (v : View) where
+  hold-by : (p : Coo3D) → editOf (hold p) v ≡ andThen (containsOf v p) (λ b. answered (withFlag v (cond b (v .flag) (not (v .flag)))))
+  unfolding editOf checked containsOf changed
+  hold-by p = by-flag v hold (λ q. contained q v) (λ b. cond b (v .flag) (not (v .flag))) (λ q. refl) (v .count) (pointAt 0 p)
+
+  rule-by : (m : ContainsSouthPoleMethod) → editOf (rule m) v ≡ andThen (flagOf v m) (λ b. answered (withFlag v b))
+  unfolding editOf checked flagOf changed
+  rule-by m = by-flag v rule (λ k. ruleFlag k v) (λ b. b) (λ k. refl) (v .count) (ruleAt (v .count) m)
+
+  pub hold-done : (p : Coo3D) (b : Bool) (w : View) → answered b ≡ containsOf v p → w ≡ withFlag v (cond b (v .flag) (not (v .flag))) → editOf (hold p) v ≡ answered w
+  hold-done p b w e is = rw (hold-by p, sym e, is)
+
+  pub hold-refused : (p : Coo3D) (k : ℕ) (vs : List ℕ) → refused k vs ≡ containsOf v p → editOf (hold p) v ≡ refused k vs
+  hold-refused p k vs e = rw (hold-by p, sym e)
+
+  pub rule-done : (m : ContainsSouthPoleMethod) (b : Bool) (w : View) → answered b ≡ flagOf v m → w ≡ withFlag v b → editOf (rule m) v ≡ answered w
+  rule-done m b w e is = rw (rule-by m, sym e, is)
+
+  pub rule-refused : (m : ContainsSouthPoleMethod) (k : ℕ) (vs : List ℕ) → refused k vs ≡ flagOf v m → editOf (rule m) v ≡ refused k vs
+  rule-refused m k vs e = rw (rule-by m, sym e)

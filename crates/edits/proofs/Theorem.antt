@@ -1,0 +1,84 @@
+-- The theorem over every list of edits, by induction on the list.
+use mathlib.Core.Path.{_≡_, refl, sym, ap, _∙_}
+use mathlib.Core.Bool.{true}
+use mathlib.Core.List.{List}
+use lib.ListN.{length}
+use Rattle.great_circles.specs.Queries.{arcFirstOf, arcAllOf, isIntersectingArc, circleAllOf}
+use Rattle.parallels.specs.Queries.{parallelFirstOf, parallelAllOf, isIntersectingParallel}
+use Rattle.refusal.specs.Answer.{Answer, answered, refused, andThen, outcomeOf}
+use Rattle.refusal.specs.declared.Cause.{Cause}
+use Rattle.refusal.specs.declared.Outcome.{Outcome}
+use Rattle.refusal.specs.declared.Outcome.the-variants.{Done, Refused}
+use Rattle.refusal.proofs.Answers.{never}
+use Rattle.region.specs.declared.Region.{Region}
+use Rattle.region.specs.View.{View, viewOf, exactlyOne, contained}
+use Rattle.region.specs.Region.{containsOf}
+use Rattle.edits.specs.declared.EditAnswer.{EditAnswer}
+use Rattle.edits.specs.Edits.{Edit, Edited, changed, editOf}
+use Rattle.edits.specs.Record.{Plain, regionOf, edited, checkedBy, settled, after}
+use Rattle.edits.specs.Theorem.{Run, stop, step, Agrees, verdict, Turns, Holds, at-end, at-edit, EditTheorem}
+use Rattle.edits.proofs.Legal.{Legal, legal}
+use Rattle.edits.proofs.Good.{Good, fresh-good, build-start, good-edited}
+use Rattle.edits.proofs.One.{changed-one}
+use Rattle.edits.proofs.Turned.{turned}
+
+agrees : (s : Plain) (r : Region) → Good (s .corners) → viewOf r ≡ regionOf s → Agrees s r
+agrees s r g v =
+    record {
+      fresh = regionOf s;
+      built = fresh-good s g;
+      view = v;
+      contains = λ p. ap (λ (w : View). containsOf w p) v;
+      arcFirst = λ a b. ap (λ (w : View). arcFirstOf w a b) v;
+      arcAll = λ a b. ap (λ (w : View). arcAllOf w a b) v;
+      arcIs = λ a b. ap (λ (w : View). isIntersectingArc w a b) v;
+      circle = λ n. ap (λ (w : View). circleAllOf w n) v;
+      parallelFirst = λ lat sin cos. ap (λ (w : View). parallelFirstOf w lat sin cos) v;
+      parallelAll = λ lat sin cos. ap (λ (w : View). parallelAllOf w lat sin cos) v;
+      parallelIs = λ lat sin cos. ap (λ (w : View). isIntersectingParallel w lat sin cos) v;
+    }
+
+-- ---- one edit
+
+-- what an answer of the table makes of the record `s` and of the view `w` that follows, with the outcome `o`
+record Stepped (s : Plain) (x : Answer Edit) (o : Outcome) (w : View) : Type 0 where
+  outcome : outcomeOf o true ≡ verdict x
+  good : Good (settled x s .corners)
+  view : w ≡ regionOf (settled x s)
+
+module _ (s : Plain) (e : Edit) (w : View) (good : Good (s .corners)) where
+  stepped : (x : Answer Edit) (o : Outcome) → checkedBy s e ≡ x → outcomeOf o w ≡ andThen x (λ k. answered (changed k (regionOf s)))
+      → ((cause : Cause) → o ≡ Refused cause → w ≡ regionOf s) → Stepped s x o w
+  stepped (answered k) Done p a kept =
+      let l : Legal (length (s .corners)) k = legal (length (s .corners)) k e p in
+      let q : w ≡ changed k (regionOf s) = cc a in
+      record { outcome = refl; good = good-edited k s l good; view = q ∙ changed-one k s l }
+  stepped (answered k) (Refused cause) p a kept = never a
+  stepped (refused n vs) Done p a kept = never (sym a)
+  stepped (refused n vs) (Refused cause) p a kept = record { outcome = cc a; good = good; view = kept cause refl }
+
+module _ (s : Plain) (e : Edit) (r : Region) (a : EditAnswer) (good : Good (s .corners)) (v : viewOf r ≡ regionOf s) (h : Edited e r a) where
+  step-of : Stepped s (checkedBy s e) (a .outcome) (viewOf (a .region))
+  unfolding editOf
+  step-of = stepped s e (viewOf (a .region)) good (checkedBy s e) (a .outcome) refl (h .answer ∙ ap (editOf e) v) (λ cause q. ap viewOf (h .kept cause q) ∙ v)
+
+  turns : (k : Edit) → checkedBy s e ≡ answered k → Turns k s r (a .region)
+  turns k p m x d =
+      let l : Legal (length (s .corners)) k = legal (length (s .corners)) k e p in
+      let w : viewOf (a .region) ≡ regionOf (edited k s) = step-of .view ∙ ap (λ (y : Answer Edit). regionOf (settled y s)) p in
+      ap (λ (u : View). exactlyOne (contained x u) (contained x (viewOf r))) w
+      ∙ ap (λ (u : View). exactlyOne (contained x (regionOf (edited k s))) (contained x u)) v
+      ∙ turned x k s l (good .some) m
+
+-- ---- every list
+
+holds : {r last : Region} {es : List Edit} (s : Plain) (run : Run r es last) → Good (s .corners) → viewOf r ≡ regionOf s → Holds r last es s run
+holds {r = r} s stop g v = at-end (agrees s r g v)
+holds s (step {r = r} {e = e} a h rest) g v =
+    let n = step-of s e r a g v h in
+    at-edit a h rest (agrees s r g v) (n .outcome) (turns s e r a g v h) (holds (after e s) rest (n .good) (n .view))
+
+pub edit-theorem : EditTheorem
+edit-theorem points count rule b built done es last run =
+    let t = build-start points count rule (viewOf (b .region)) (sym built ∙ ap (λ (o : Outcome). outcomeOf o (viewOf (b .region))) done) in
+    (t .plain, (t .starts, holds (t .plain) run (t .good) (t .view)))

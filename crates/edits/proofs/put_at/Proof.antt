@@ -1,0 +1,95 @@
+-- `edits::put_at` meets its contract. Assumes nothing.
+use Prim.Native.Nat.{_≤_}
+use native.Mathlib.Omega.{arith}
+use mathlib.Core.Path.{_≡_}
+use lib.ListN.{length}
+use Rattle.region.proofs.Lengths.{unmap}
+use Rattle.edits.proofs.PutAt.{put-two, put-only}
+use borrow.Author.Needs.{needs}
+use Rattle.edits.proofs.put_at.Statement.{statement}
+use Rattle.edits.proofs.put_at.Tie as tie
+
+long : (c : tie.Start) → c .args .r .count ≤ length (c .args .r .vertices)
+long c = let e : length (c .args .r .vertices) ≡ 64 = search unmap in omega arith
+
+corner-before-requires : tie.Need-corner-before-requires
+corner-before-requires c κs = search needs
+
+next-index-requires : tie.Need-next-index-requires
+next-index-requires c κs = search needs
+
+mul-p : tie.Need-mul-p
+mul-p c = search needs
+
+element-set-from-p : tie.Need-element-set-from-p
+element-set-from-p c = search needs
+
+edge-normal-requires : tie.Need-edge-normal-requires
+edge-normal-requires c κs = search needs
+
+mul-only : tie.Need-mul-only
+mul-only c = search needs
+
+element-set-from-only : tie.Need-element-set-from-only
+element-set-from-only c = search needs
+
+returns : tie.Need-returns
+returns c =
+    let s = c .before .before .before .before in
+    let a = s .args in
+    let next = c .before .before .next-index in
+    put-only (a .r .count) (a .r .vertices) (a .r .«cross_products») (a .i) (next .result) (a .p) (s .pre .0) (long s) (next .ensures .0) (next .ensures .1) (a .r .«contains_south_pole») (c .edge-normal .result) (c .before .if1 .taken) (c .edge-normal .ensures)
+
+mul-to : tie.Need-mul-to
+mul-to c = search needs
+
+element-copy-out-to : tie.Need-element-copy-out-to
+element-copy-out-to c = search needs
+
+edge-normal-requires-2 : tie.Need-edge-normal-requires-2
+edge-normal-requires-2 c κs = search needs
+
+edge-normal-requires-3 : tie.Need-edge-normal-requires-3
+edge-normal-requires-3 c κs = search needs
+
+mul-first : tie.Need-mul-first
+mul-first c = search needs
+
+element-set-from-first : tie.Need-element-set-from-first
+element-set-from-first c = search needs
+
+mul-second : tie.Need-mul-second
+mul-second c = search needs
+
+element-set-from-second : tie.Need-element-set-from-second
+element-set-from-second c = search needs
+
+returns-2 : tie.Need-returns-2
+returns-2 c =
+    let s = c .before .before .before .before .before .before in
+    let a = s .args in
+    let next = c .before .before .before .before .next-index in
+    let from = c .before .before .before .before .before .corner-before in
+    put-two (a .r .count) (a .r .vertices) (a .r .«cross_products») (a .i) (next .result) (a .p) (s .pre .0) (long s) (next .ensures .0) (next .ensures .1) (a .r .«contains_south_pole») (from .result) (c .before .edge-normal2 .result) (c .edge-normal3 .result) (from .ensures) (c .before .edge-normal2 .ensures) (c .edge-normal3 .ensures)
+
+pub put-at-spec : {M : Type 1} → statement M
+put-at-spec =
+    tie.close
+    (tie.spec
+    corner-before-requires
+    next-index-requires
+    mul-p
+    element-set-from-p
+    edge-normal-requires
+    mul-only
+    element-set-from-only
+    returns
+    mul-to
+    element-copy-out-to
+    edge-normal-requires-2
+    edge-normal-requires-3
+    mul-first
+    element-set-from-first
+    mul-second
+    element-set-from-second
+    returns-2)

@@ -1,0 +1,257 @@
+// Edits of a region. A corner changed costs the normals it touches, and the region is still the one that a fresh build would give: the theorem in
+// specs/Theorem.antt. Upstream has `must_contain` alone.
+mod shifts;
+
+ghost use mathlib.Core.Path.{_≡_};
+ghost use Prim.Native.Nat.{_-_, _≤_, _<_};
+ghost use lib.ListN.{take, getD};
+ghost use Rattle.lists.specs.Cyclic.{nextOf, thereOf, beforeOf};
+ghost use Rattle.region.specs.View.{viewOf, withFlag, nowhere};
+ghost use Rattle.edits.specs.Edits.{Edited, changed};
+ghost use Rattle.refusal.specs.declared.Outcome.{Outcome};
+ghost use Rattle.edits.specs.Edits as edit;
+use coo3d::Coo3D;
+use domain::PointCheck;
+use refusal::Cause;
+use refusal::Decision;
+use refusal::Outcome;
+use region::ContainsSouthPoleMethod;
+use region::Region;
+
+// The region beside the outcome. A refusal leaves the region as it was.
+pub struct EditAnswer {
+    pub region: Region,
+    pub outcome: Outcome,
+}
+
+// The corner from which the edge to corner i comes.
+fn corner_before(r: Region, i: usize) -> Coo3D
+    requires { ⌜ (0 < r .count) × ((r .count ≤ 64) × (i ≤ r .count)) ⌝ }
+    ensures { λ c. ⌜ c ≡ beforeOf nowhere (take (r .count) (r .vertices)) i ⌝ }
+{
+    let count = r.count;
+    if i == 0 {
+        let last = count - 1;
+        return r.vertices[last];
+    }
+    let at = i - 1;
+    r.vertices[at]
+}
+
+// The index after i, of n.
+fn next_index(n: usize, i: usize) -> usize
+    requires { ⌜ (i < n) × (n ≤ 64) ⌝ }
+    ensures { λ j. ⌜ (j ≡ nextOf n i) × (j < n) ⌝ }
+{
+    if i + 1 == n { 0 } else { i + 1 }
+}
+
+// Where the corner after corner i stands once that one is gone.
+fn index_left(n: usize, i: usize) -> usize
+    requires { ⌜ (i < n) × ((1 < n) × (n ≤ 64)) ⌝ }
+    ensures { λ j. ⌜ (j ≡ thereOf n i) × (j < n - 1) ⌝ }
+{
+    if i + 1 == n { 0 } else { i }
+}
+
+// The corner at i is p: its two edges' normals are worked out, at count 1 the one edge's.
+fn put_at(r: Region, i: usize, p: Coo3D) -> Region
+    requires { ⌜ (i < r .count) × (r .count ≤ 64) ⌝ }
+    ensures { λ o. ⌜ viewOf o ≡ changed (edit.put i p) (viewOf r) ⌝ }
+{
+    let count = r.count;
+    let from = corner_before(r, i);
+    let j = next_index(count, i);
+    let mut out = r;
+    out.vertices[i] = p;
+    if count == 1 {
+        let only = region::edge_normal(p, p);
+        out.cross_products[i] = only;
+        return out;
+    }
+    let to = out.vertices[j];
+    let first = region::edge_normal(from, p);
+    let second = region::edge_normal(p, to);
+    out.cross_products[i] = first;
+    out.cross_products[j] = second;
+    out
+}
+
+// p stands before corner i: the new corner's two normals are worked out, the others move with their corners.
+fn insert_at(r: Region, i: usize, p: Coo3D) -> Region
+    requires { ⌜ (i ≤ r .count) × ((0 < r .count) × (r .count < 64)) ⌝ }
+    ensures { λ o. ⌜ viewOf o ≡ changed (edit.insert i p) (viewOf r) ⌝ }
+{
+    let count = r.count;
+    let from = corner_before(r, i);
+    let j = next_index(count + 1, i);
+    let corners = r.vertices;
+    let normals = r.cross_products;
+    let vertices = shifts::insert_corner(corners, i, p, count);
+    let to = vertices[j];
+    let first = region::edge_normal(from, p);
+    let second = region::edge_normal(p, to);
+    let mut cross_products = shifts::insert_normal(normals, i, first, count);
+    cross_products[j] = second;
+    Region {
+        vertices,
+        cross_products,
+        count: count + 1,
+        contains_south_pole: r.contains_south_pole,
+    }
+}
+
+// Corner i is gone: the normal of the edge that closes the gap is worked out, the others move with their corners.
+fn remove_at(r: Region, i: usize) -> Region
+    requires { ⌜ (i < r .count) × ((1 < r .count) × (r .count ≤ 64)) ⌝ }
+    ensures { λ o. ⌜ viewOf o ≡ changed (edit.remove i) (viewOf r) ⌝ }
+{
+    let count = r.count;
+    let from = corner_before(r, i);
+    let j = index_left(count, i);
+    let corners = r.vertices;
+    let normals = r.cross_products;
+    let vertices = shifts::remove_corner(corners, i, count);
+    let to = vertices[j];
+    let closing = region::edge_normal(from, to);
+    let mut cross_products = shifts::remove_normal(normals, i, count);
+    cross_products[j] = closing;
+    Region {
+        vertices,
+        cross_products,
+        count: count - 1,
+        contains_south_pole: r.contains_south_pole,
+    }
+}
+
+fn refused(r: Region, cause: Cause) -> EditAnswer
+    ensures { λ a. ⌜ a ≡ record { region = r; outcome = Outcome.Refused cause } ⌝ }
+{
+    EditAnswer {
+        region: r,
+        outcome: Outcome::Refused(cause),
+    }
+}
+
+pub fn put(r: Region, i: usize, corner: Coo3D) -> EditAnswer
+    ensures { λ a. ⌜ Edited (edit.put i corner) r a ⌝ }
+{
+    let count = r.count;
+    if count == 0 {
+        return refused(r, Cause::NoPoint);
+    }
+    if count > 64 {
+        return refused(r, Cause::TooManyPoints);
+    }
+    if i >= count {
+        return refused(r, Cause::NoSuchIndex);
+    }
+    let PointCheck::Point(p) = domain::check_point(corner, 0) else {
+        return refused(r, Cause::OutsideDomain(0));
+    };
+    let region = put_at(r, i, p);
+    EditAnswer {
+        region,
+        outcome: Outcome::Done,
+    }
+}
+
+// Before corner i; i equal to the count appends.
+pub fn insert(r: Region, i: usize, corner: Coo3D) -> EditAnswer
+    ensures { λ a. ⌜ Edited (edit.insert i corner) r a ⌝ }
+{
+    let count = r.count;
+    if count == 0 {
+        return refused(r, Cause::NoPoint);
+    }
+    if count >= 64 {
+        return refused(r, Cause::TooManyPoints);
+    }
+    if i > count {
+        return refused(r, Cause::NoSuchIndex);
+    }
+    let PointCheck::Point(p) = domain::check_point(corner, 0) else {
+        return refused(r, Cause::OutsideDomain(0));
+    };
+    let region = insert_at(r, i, p);
+    EditAnswer {
+        region,
+        outcome: Outcome::Done,
+    }
+}
+
+pub fn remove(r: Region, i: usize) -> EditAnswer
+    ensures { λ a. ⌜ Edited (edit.remove i) r a ⌝ }
+{
+    let count = r.count;
+    if count <= 1 {
+        return refused(r, Cause::NoPoint);
+    }
+    if count > 64 {
+        return refused(r, Cause::TooManyPoints);
+    }
+    if i >= count {
+        return refused(r, Cause::NoSuchIndex);
+    }
+    let region = remove_at(r, i);
+    EditAnswer {
+        region,
+        outcome: Outcome::Done,
+    }
+}
+
+// The region with its flag as given.
+fn with_flag(r: Region, flag: bool) -> EditAnswer
+    ensures { λ a. ⌜ (a .outcome ≡ Outcome.Done) × (viewOf (a .region) ≡ withFlag (viewOf r) flag) ⌝ }
+{
+    let mut region = r;
+    region.contains_south_pole = flag;
+    EditAnswer {
+        region,
+        outcome: Outcome::Done,
+    }
+}
+
+pub fn turn(r: Region) -> EditAnswer
+    ensures { λ a. ⌜ Edited edit.turn r a ⌝ }
+{
+    let count = r.count;
+    if count == 0 {
+        return refused(r, Cause::NoPoint);
+    }
+    if count > 64 {
+        return refused(r, Cause::TooManyPoints);
+    }
+    with_flag(r, !r.contains_south_pole)
+}
+
+// Upstream: `must_contain`. The flag is turned where the point isn't contained.
+pub fn hold(r: Region, coo: Coo3D) -> EditAnswer
+    ensures { λ a. ⌜ Edited (edit.hold coo) r a ⌝ }
+{
+    match region::contains(r, coo) {
+        Decision::Yes => with_flag(r, r.contains_south_pole),
+        Decision::No => with_flag(r, !r.contains_south_pole),
+        Decision::Refused(cause) => refused(r, cause),
+    }
+}
+
+// The same on a lent region, which a refusal leaves as it was.
+pub fn hold_lent(r: &mut Region, coo: Coo3D) -> Outcome
+    ensures { λ o. ⌜ Edited (edit.hold coo) (now (r .entry)) (record { region = now (r .exit); outcome = o }) ⌝ }
+{
+    let answer = hold(*r, coo);
+    let out = answer.region;
+    *r = out;
+    answer.outcome
+}
+
+pub fn rule(r: Region, method: ContainsSouthPoleMethod) -> EditAnswer
+    ensures { λ a. ⌜ Edited (edit.rule method) r a ⌝ }
+{
+    match region::contains_south_pole(r, method) {
+        Decision::Yes => with_flag(r, true),
+        Decision::No => with_flag(r, false),
+        Decision::Refused(cause) => refused(r, cause),
+    }
+}
