@@ -1,2 +1,3 @@
 pub mod First
 pub mod Fill
+pub mod Gather

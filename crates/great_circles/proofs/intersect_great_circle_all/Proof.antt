@@ -1,42 +1,33 @@
 -- `great_circles::intersect_great_circle_all` meets its contract. Assumes nothing.
 use Prim.Native.Nat.{ℕ, _+_, _-_, _≤_}
 use native.Mathlib.Omega.{arith}
-use mathlib.Core.Path.{_≡_, refl, sym, ap, _∙_}
+use mathlib.Core.Path.{_≡_, sym, ap, _∙_, subst}
 use mathlib.Core.List.{List, [], _∷_}
 use borrow.Author.Needs.{needs}
-use lib.ListN.{length, getD, length-set}
+use lib.ListN.{length, getD}
 use mathlib.Core.Logic.{⊎-elim}
-use Rattle.coo3d.specs.declared.UnitVect3.{UnitVect3}
 use Rattle.crossings.specs.declared.Crossing.{Crossing}
-use Rattle.crossings.specs.Crossings.{crossingsOf, testedAnswer, testedOf}
-use Rattle.domain.proofs.Counts.{count-none, count-many}
-use Rattle.refusal.specs.Answer.{Answer, answered, refused}
+use Rattle.crossings.specs.declared.Tested.the-variants as tested
+use Rattle.domain.proofs.Counts.{count-none, count-many, count-few}
+use Rattle.refusal.specs.Answer.{Answer, answered, refused, andThen}
 use Rattle.region.specs.Edges.{Edge}
 use Rattle.region.specs.View.{viewOf, nowhere, edgesOf}
 use Rattle.region.proofs.Lengths.{unmap}
-use Rattle.region.proofs.Edges.{nothing, edgesLeft, start, turn, done}
-use Rattle.crossings.specs.Crossings.{allOf, zeros, listOf, Lists}
-use Rattle.crossings.proofs.First.{tested-refused}
-use Rattle.crossings.proofs.Fill.{fill, fill-none, fill-at, fill-refused, fill-done, fill-all, lists-done, lists-refused}
-use Rattle.refusal.specs.Answer.{andThen}
+use Rattle.region.proofs.Edges.{edgesLeft, start, turn, done, edges-length}
+use Rattle.crossings.specs.Crossings.{crossingsOf, allOf, Lists}
+use Rattle.crossings.proofs.Gather.{Turn, turned, Gathered, gathered-start, gathered-none, gathered-at, gathered-refused, gathered-done}
 use Rattle.region.specs.declared.Region.{Region}
-use Rattle.region.proofs.Edges.{edges-length}
-use mathlib.Core.Path.{subst}
 use Rattle.great_circles.specs.Circles.{circleCrossing}
 use Rattle.great_circles.specs.Queries.{circleAllOf}
 use Rattle.coo3d.specs.declared.Vect3.{Vect3}
 use Rattle.domain.specs.Checks.{vectorAnswer, vectorAt, withCount}
-use Rattle.domain.proofs.Counts.{count-few}
 use Rattle.domain.proofs.Points.{vector-refused}
 use Rattle.great_circles.proofs.intersect_great_circle_all.Statement.{statement}
 use Rattle.great_circles.proofs.intersect_great_circle_all.Tie as tie
 
 abbrev Inv-loop : tie.InvT-loop
 Inv-loop r count m points₀ len₀ last from₀ i₀ points len from i =
-    (i ≤ r .count)
-    × ((len ≤ i)
-    × ((length points ≡ 64)
-    × (fill (circleCrossing m) points len (edgesLeft r from i) ≡ fill (circleCrossing m) zeros 0 (edgesOf (viewOf r)))))
+    (i ≤ r .count) × Gathered (circleCrossing m) (edgesOf (viewOf r)) (edgesLeft r from i) points len i
 
 abbrev μ-loop : tie.MeasureT-loop
 μ-loop r count m points₀ len₀ last from₀ i₀ points len from i = r .count - i
@@ -72,35 +63,17 @@ module _ (x : tie.After-from Inv-loop μ-loop) where
   unfolding circleAllOf
   whole = inside (region .count) (start-of .args .n) (λ k. allOf (crossingsOf (circleCrossing k) (edgesOf (viewOf region)))) (x .before .before .before .before .before .before .before .if1 .left) few _ (ap vectorAnswer (sym (x .before .before .before .m .given .1)) ∙ x .before .before .before .before .before .check-vector .ensures)
 
-  -- the loop from its start
-  filled : fill hit zeros 0 (edgesOf (viewOf region)) ≡ andThen (allOf (crossingsOf hit (edgesOf (viewOf region)))) (λ qs. answered (listOf qs))
-  filled = fill-all hit (edgesOf (viewOf region)) (omega (arith, edges-length region, few))
-
-zeros-length : length zeros ≡ 64
-unfolding zeros
-zeros-length = refl
-
--- the edge of a turn, and what the test of its crossing answered
+-- the turn of the loop
 module _ (y : tie.After-test-finite Inv-loop μ-loop) where
-  abbrev here : tie.After-from Inv-loop μ-loop
-  here = y .before .before .before .before .before .before
+  abbrev now : tie.At-loop Inv-loop μ-loop
+  now = y .before .before .before .before .before
 
-  abbrev at : ℕ
-  at = y .before .before .before .before .before .loop .i
-
-  abbrev edge : Edge
-  edge = record { from = y .before .before .before .before .before .loop .from; to = getD (region here .vertices) at nowhere; normal = getD (region here .«cross_products») at nothing }
-
-  abbrev rest : List Edge
-  rest = edgesLeft (region here) (getD (region here .vertices) at nowhere) (at + 1)
-
-  told : testedAnswer (y .test-finite .result) ≡ testedOf (hit here edge)
-  told = y .test-finite .ensures ∙ ap testedOf (y .before .circle-crossing .ensures)
-
-  left : fill (hit here) (y .before .before .before .before .before .loop .points) (y .before .before .before .before .before .loop .len) (edge ∷ rest) ≡ fill (hit here) zeros 0 (edgesOf (viewOf (region here)))
-  left =
-      ap (fill (hit here) (y .before .before .before .before .before .loop .points) (y .before .before .before .before .before .loop .len)) (sym (turn (region here) (y .before .before .before .before .before .loop .from) at (long (start-of here) (few here)) (long' (start-of here) (few here)) (y .before .before .before .before .loop-test .taken)))
-      ∙ y .before .before .before .before .before .loop .inv .1 .1 .1
+  here : let x = now .before in
+      let l = now .loop in
+      Turn (hit x) (edgesLeft (region x) (l .from) (l .i)) (edgesLeft (region x) (getD (region x .vertices) (l .i) nowhere) (l .i + 1)) (y .test-finite .result)
+  here =
+      let x = now .before in
+      turned (turn (region x) _ _ (long (start-of x) (few x)) (long' (start-of x) (few x)) (y .before .before .before .before .loop-test .taken)) (y .before .circle-crossing .ensures) (y .test-finite .ensures)
 
 refused-requires : tie.Need-refused-requires Inv-loop μ-loop
 refused-requires c κs = search needs
@@ -145,17 +118,7 @@ element-copy-out-from : tie.Need-element-copy-out-from Inv-loop μ-loop
 element-copy-out-from c = search needs
 
 loop-holds : tie.Need-loop-holds Inv-loop μ-loop
-loop-holds c =
-    let e = start (region c) (omega (arith, c .before .before .before .before .before .before .before .if1 .left)) (long (start-of c) (few c)) in (
-      omega arith,
-      (
-        omega arith,
-        (
-          ap length (c .before .no-points .ensures) ∙ zeros-length,
-          ap (λ (ps : List UnitVect3). fill (hit c) ps 0 (edgesLeft (region c) (getD (region c .vertices) (region c .count - 1) nowhere) 0)) (c .before .no-points .ensures) ∙ ap (fill (hit c) zeros 0) (sym e),
-        ),
-      ),
-    )
+loop-holds c = (omega arith, gathered-start (omega (arith, edges-length (region c), few c)) (c .before .no-points .ensures) (start (region c) (omega (arith, c .before .before .before .before .before .before .before .if1 .left)) (long (start-of c) (few c))))
 
 mul-to : tie.Need-mul-to Inv-loop μ-loop
 mul-to c = search needs
@@ -187,67 +150,44 @@ refused-requires-4 c κs = search needs
 returns-4 : tie.Need-returns-4 Inv-loop μ-loop
 returns-4 c =
     let y = c .before .before .before in
-    let x = here y in
-    let e = sym (filled x) ∙ sym (left y) ∙ fill-refused (hit x) _ _ (edge y) (rest y) 6 [] (tested-refused (hit x (edge y)) _ _ (ap testedAnswer (sym (c .before .enum-told2 .given .1)) ∙ told y)) in
-    subst (Lists _) (whole x) (lists-refused _ _ 6 [] e (c .refused4 .ensures))
+    let x = now y .before in
+    gathered-refused (now y .loop .inv .1) _ (whole x) (here y) _ (c .before .enum-told2 .given .1) _ (c .refused4 .ensures)
 
 enum-known-c-2 : tie.Need-enum-known-c-2 Inv-loop μ-loop
 enum-known-c-2 c = search needs
 
 mul-points : tie.Need-mul-points Inv-loop μ-loop
-mul-points c = omega (arith, c .before .before .before .before .before .before .before .before .before .before .loop-test .taken, c .before .before .before .before .before .before .before .before .before .before .before .loop .inv .1 .0, c .before .before .before .before .before .before .before .before .before .before .before .before .before .before .before .before .before .before .if2 .left)
+mul-points c = search needs
 
 array-set-from-points : tie.Need-array-set-from-points Inv-loop μ-loop
-array-set-from-points c = omega (arith, c .before .before .before .before .before .before .before .before .before .before .loop-test .taken, c .before .before .before .before .before .before .before .before .before .before .before .loop .inv .1 .0, c .before .before .before .before .before .before .before .before .before .before .before .before .before .before .before .before .before .before .if2 .left)
+array-set-from-points c = search needs
 
 add-len : tie.Need-add-len Inv-loop μ-loop
-add-len c = omega (arith, c .before .before .before .before .before .before .before .before .before .before .loop-test .taken, c .before .before .before .before .before .before .before .before .before .before .before .loop .inv .1 .0, c .before .before .before .before .before .before .before .before .before .before .before .before .before .before .before .before .before .before .if2 .left)
+add-len c = search needs
 
 enum-told-3 : tie.Need-enum-told-3 Inv-loop μ-loop
 enum-told-3 c = search needs
 
 add-i : tie.Need-add-i Inv-loop μ-loop
-add-i c = omega (arith, c .before .before .before .before .before .before .before .before .loop-test .taken, c .before .before .before .before .before .before .before .before .before .before .before .before .before .before .before .before .if2 .left)
+add-i c = search needs
 
 loop-less : tie.Need-loop-less Inv-loop μ-loop
-loop-less c = omega (arith, c .before .before .before .before .before .before .before .before .loop-test .taken)
+loop-less c = search needs
 
 loop-again : tie.Need-loop-again Inv-loop μ-loop
 loop-again c =
     let y = c .before .before .before .before in
-    let x = here y in
-    let l = y .before .before .before .before .before .loop in
-    let t = c .before .before .before .before .before .before .before .before .loop-test .taken in
-    let e = sym (told y) ∙ ap testedAnswer (c .before .before .c .given .1) in
+    let t = c .before .before .c .given .1 in
     ⊎-elim
-    (λ w. (
-      omega (arith, t),
-      (
-        omega (arith, w .4, l .inv .1 .0),
-        (
-          rw (w .3, length-set) (l .inv .1 .1 .0),
-          rw (w .3, w .4) (sym (fill-at (hit x) (l .points) (l .len) (edge y) (rest y) _ (e ∙ ap answered (w .1 .given .1))) ∙ left y),
-        ),
-      ),
-    ))
-    (λ w. (
-      omega (arith, t),
-      (
-        omega (arith, w .3, l .inv .1 .0),
-        (
-          rw (w .2) (l .inv .1 .1 .0),
-          rw (w .2, w .3) (sym (fill-none (hit x) (l .points) (l .len) (edge y) (rest y) (e ∙ ap answered (w .1 .given .1))) ∙ left y),
-        ),
-      ),
-    ))
+    (λ w. (search needs, gathered-at (here y) (now y .loop .inv .1) _ (t ∙ ap tested.Crossing (w .1 .given .1)) (w .3) (w .4)))
+    (λ w. (search needs, gathered-none (here y) (now y .loop .inv .1) (t ∙ ap tested.Crossing (w .1 .given .1)) (w .2) (w .3)))
     (c .match3 .came)
 
 returns-5 : tie.Need-returns-5 Inv-loop μ-loop
 returns-5 c =
     let x = c .before .before in
     let l = c .before .loop in
-    let e = sym (filled x) ∙ sym (l .inv .1 .1 .1) ∙ ap (fill (hit x) (l .points) (l .len)) (done (region x) (l .from) (l .i) (long (start-of x) (few x)) (c .loop-test .left)) ∙ fill-done (hit x) (l .points) (l .len) in
-    subst (Lists _) (whole x) (lists-done _ _ e)
+    gathered-done (l .inv .1) _ (whole x) (done (region x) (l .from) (l .i) (long (start-of x) (few x)) (c .loop-test .left))
 
 pub intersect-great-circle-all-spec : {M : Type 1} → statement M
 intersect-great-circle-all-spec =

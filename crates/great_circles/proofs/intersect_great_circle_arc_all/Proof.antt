@@ -1,28 +1,21 @@
 -- `great_circles::intersect_great_circle_arc_all` meets its contract. Assumes nothing.
-use Prim.Native.Nat.{ℕ, _+_, _-_, _≤_}
+use Prim.Native.Nat.{_+_, _-_, _≤_, _<_}
 use native.Mathlib.Omega.{arith}
-use mathlib.Core.Path.{_≡_, refl, sym, ap, _∙_}
-use mathlib.Core.List.{List, [], _∷_}
+use mathlib.Core.Path.{_≡_, sym, ap, _∙_, subst}
 use borrow.Author.Needs.{needs}
-use lib.ListN.{length, getD, length-set}
+use lib.ListN.{length, getD}
 use mathlib.Core.Logic.{⊎-elim}
-use Rattle.coo3d.specs.declared.UnitVect3.{UnitVect3}
 use Rattle.crossings.specs.declared.Crossing.{Crossing}
-use Rattle.crossings.specs.Crossings.{crossingsOf, testedAnswer, testedOf}
+use Rattle.crossings.specs.declared.Tested.the-variants as tested
 use Rattle.domain.specs.Checks.{pointAnswer}
 use Rattle.domain.proofs.Counts.{count-none, count-many}
-use Rattle.refusal.specs.Answer.{answered, refused}
 use Rattle.region.specs.Edges.{Edge}
 use Rattle.region.specs.View.{viewOf, nowhere, edgesOf}
 use Rattle.region.proofs.Lengths.{unmap}
-use Rattle.region.proofs.Edges.{nothing, edgesLeft, start, turn, done}
-use Rattle.crossings.specs.Crossings.{allOf, zeros, listOf, Lists}
-use Rattle.crossings.proofs.First.{tested-refused}
-use Rattle.crossings.proofs.Fill.{fill, fill-none, fill-at, fill-refused, fill-done, fill-all, lists-done, lists-refused}
-use Rattle.refusal.specs.Answer.{andThen}
+use Rattle.region.proofs.Edges.{edgesLeft, start, turn, done, edges-length}
+use Rattle.crossings.specs.Crossings.{crossingsOf, allOf, Lists}
+use Rattle.crossings.proofs.Gather.{Turn, turned, Gathered, gathered-start, gathered-none, gathered-at, gathered-refused, gathered-done}
 use Rattle.region.specs.declared.Region.{Region}
-use Rattle.region.proofs.Edges.{edges-length}
-use mathlib.Core.Path.{subst}
 use Rattle.great_circles.specs.Arcs.{arcCrossing}
 use Rattle.great_circles.specs.Queries.{arcAllOf, arcCrossings}
 use Rattle.great_circles.proofs.Checked.{first-outside, second-outside, both-inside, by-longitude}
@@ -31,10 +24,7 @@ use Rattle.great_circles.proofs.intersect_great_circle_arc_all.Tie as t
 
 abbrev Inv-loop : tie.InvT-loop
 Inv-loop r count west east points₀ len₀ last from₀ i₀ points len from i =
-    (i ≤ r .count)
-    × ((len ≤ i)
-    × ((length points ≡ 64)
-    × (fill (arcCrossing west east) points len (edgesLeft r from i) ≡ fill (arcCrossing west east) zeros 0 (edgesOf (viewOf r)))))
+    (i ≤ r .count) × Gathered (arcCrossing west east) (edgesOf (viewOf r)) (edgesLeft r from i) points len i
 
 abbrev μ-loop : tie.MeasureT-loop
 μ-loop r count west east points₀ len₀ last from₀ i₀ points len from i = r .count - i
@@ -69,35 +59,23 @@ module _ (x : tie.After-from Inv-loop μ-loop) where
       _
       (ap pointAnswer (sym (x .before .before .before .before .before .q .given .1)) ∙ x .before .before .before .before .before .before .before .check-point2 .ensures))
 
-  -- the loop from its start
-  filled : fill hit zeros 0 (edgesOf (viewOf region)) ≡ andThen (allOf (crossingsOf hit (edgesOf (viewOf region)))) (λ qs. answered (listOf qs))
-  filled = fill-all hit (edgesOf (viewOf region)) (omega (arith, edges-length region, few))
-
-zeros-length : length zeros ≡ 64
-unfolding zeros
-zeros-length = refl
-
--- the edge of a turn, and what the test of its crossing answered
+-- the turn of the loop
 module _ (y : tie.After-test-finite Inv-loop μ-loop) where
-  abbrev here : tie.After-from Inv-loop μ-loop
-  here = y .before .before .before .before .before .before
+  abbrev now : tie.At-loop Inv-loop μ-loop
+  now = y .before .before .before .before .before
 
-  abbrev at : ℕ
-  at = y .before .before .before .before .before .loop .i
+  here : let x = now .before in
+      let l = now .loop in
+      Turn (hit x) (edgesLeft (region x) (l .from) (l .i)) (edgesLeft (region x) (getD (region x .vertices) (l .i) nowhere) (l .i + 1)) (y .test-finite .result)
+  here =
+      let x = now .before in
+      turned (turn (region x) _ _ (long (start-of x) (few x)) (long' (start-of x) (few x)) (y .before .before .before .before .loop-test .taken)) (y .before .arc-crossing .ensures) (y .test-finite .ensures)
 
-  abbrev edge : Edge
-  edge = record { from = y .before .before .before .before .before .loop .from; to = getD (region here .vertices) at nowhere; normal = getD (region here .«cross_products») at nothing }
+  in-count : now .loop .i < 64
+  in-count = omega (arith, y .before .before .before .before .loop-test .taken, few (now .before))
 
-  abbrev rest : List Edge
-  rest = edgesLeft (region here) (getD (region here .vertices) at nowhere) (at + 1)
-
-  told : testedAnswer (y .test-finite .result) ≡ testedOf (hit here edge)
-  told = y .test-finite .ensures ∙ ap testedOf (y .before .arc-crossing .ensures)
-
-  left : fill (hit here) (y .before .before .before .before .before .loop .points) (y .before .before .before .before .before .loop .len) (edge ∷ rest) ≡ fill (hit here) zeros 0 (edgesOf (viewOf (region here)))
-  left =
-      ap (fill (hit here) (y .before .before .before .before .before .loop .points) (y .before .before .before .before .before .loop .len)) (sym (turn (region here) (y .before .before .before .before .before .loop .from) at (long (start-of here) (few here)) (long' (start-of here) (few here)) (y .before .before .before .before .loop-test .taken)))
-      ∙ y .before .before .before .before .before .loop .inv .1 .1 .1
+  in-array : now .loop .len < 64
+  in-array = omega (arith, in-count, now .loop .inv .1 .few)
 
 refused-requires : tie.Need-refused-requires Inv-loop μ-loop
 refused-requires c κs = search needs
@@ -164,17 +142,7 @@ element-copy-out-from : tie.Need-element-copy-out-from Inv-loop μ-loop
 element-copy-out-from c = search needs
 
 loop-holds : tie.Need-loop-holds Inv-loop μ-loop
-loop-holds c =
-    let e = start (region c) (omega (arith, c .before .before .before .before .before .before .before .before .before .before .before .before .before .if1 .left)) (long (start-of c) (few c)) in (
-      omega arith,
-      (
-        omega arith,
-        (
-          ap length (c .before .no-points .ensures) ∙ zeros-length,
-          ap (λ (ps : List UnitVect3). fill (hit c) ps 0 (edgesLeft (region c) (getD (region c .vertices) (region c .count - 1) nowhere) 0)) (c .before .no-points .ensures) ∙ ap (fill (hit c) zeros 0) (sym e),
-        ),
-      ),
-    )
+loop-holds c = (omega arith, gathered-start (omega (arith, edges-length (region c), few c)) (c .before .no-points .ensures) (start (region c) (omega (arith, c .before .before .before .before .before .before .before .before .before .before .before .before .before .if1 .left)) (long (start-of c) (few c))))
 
 mul-to : tie.Need-mul-to Inv-loop μ-loop
 mul-to c = search needs
@@ -206,67 +174,44 @@ refused-requires-5 c κs = search needs
 returns-5 : tie.Need-returns-5 Inv-loop μ-loop
 returns-5 c =
     let y = c .before .before .before in
-    let x = here y in
-    let e = sym (filled x) ∙ sym (left y) ∙ fill-refused (hit x) _ _ (edge y) (rest y) 6 [] (tested-refused (hit x (edge y)) _ _ (ap testedAnswer (sym (c .before .enum-told3 .given .1)) ∙ told y)) in
-    subst (Lists _) (whole x) (lists-refused _ _ 6 [] e (c .refused5 .ensures))
+    let x = now y .before in
+    gathered-refused (now y .loop .inv .1) _ (whole x) (here y) _ (c .before .enum-told3 .given .1) _ (c .refused5 .ensures)
 
 enum-known-c-2 : tie.Need-enum-known-c-2 Inv-loop μ-loop
 enum-known-c-2 c = search needs
 
 mul-points : tie.Need-mul-points Inv-loop μ-loop
-mul-points c = omega (arith, c .before .before .before .before .before .before .before .before .before .before .loop-test .taken, c .before .before .before .before .before .before .before .before .before .before .before .loop .inv .1 .0, c .before .before .before .before .before .before .before .before .before .before .before .before .before .before .before .before .before .before .before .before .before .before .before .before .if2 .left)
+mul-points c = omega (arith, in-array (c .before .before .before .before .before .before))
 
 array-set-from-points : tie.Need-array-set-from-points Inv-loop μ-loop
-array-set-from-points c = omega (arith, c .before .before .before .before .before .before .before .before .before .before .loop-test .taken, c .before .before .before .before .before .before .before .before .before .before .before .loop .inv .1 .0, c .before .before .before .before .before .before .before .before .before .before .before .before .before .before .before .before .before .before .before .before .before .before .before .before .if2 .left)
+array-set-from-points c = omega (arith, in-array (c .before .before .before .before .before .before))
 
 add-len : tie.Need-add-len Inv-loop μ-loop
-add-len c = omega (arith, c .before .before .before .before .before .before .before .before .before .before .loop-test .taken, c .before .before .before .before .before .before .before .before .before .before .before .loop .inv .1 .0, c .before .before .before .before .before .before .before .before .before .before .before .before .before .before .before .before .before .before .before .before .before .before .before .before .if2 .left)
+add-len c = omega (arith, in-array (c .before .before .before .before .before .before))
 
 enum-told-4 : tie.Need-enum-told-4 Inv-loop μ-loop
 enum-told-4 c = search needs
 
 add-i : tie.Need-add-i Inv-loop μ-loop
-add-i c = omega (arith, c .before .before .before .before .before .before .before .before .loop-test .taken, c .before .before .before .before .before .before .before .before .before .before .before .before .before .before .before .before .before .before .before .before .before .before .if2 .left)
+add-i c = omega (arith, in-count (c .before .before .before .before))
 
 loop-less : tie.Need-loop-less Inv-loop μ-loop
-loop-less c = omega (arith, c .before .before .before .before .before .before .before .before .loop-test .taken)
+loop-less c = search needs
 
 loop-again : tie.Need-loop-again Inv-loop μ-loop
 loop-again c =
     let y = c .before .before .before .before in
-    let x = here y in
-    let l = y .before .before .before .before .before .loop in
-    let t = c .before .before .before .before .before .before .before .before .loop-test .taken in
-    let e = sym (told y) ∙ ap testedAnswer (c .before .before .c .given .1) in
+    let t = c .before .before .c .given .1 in
     ⊎-elim
-    (λ w. (
-      omega (arith, t),
-      (
-        omega (arith, w .4, l .inv .1 .0),
-        (
-          rw (w .3, length-set) (l .inv .1 .1 .0),
-          rw (w .3, w .4) (sym (fill-at (hit x) (l .points) (l .len) (edge y) (rest y) _ (e ∙ ap answered (w .1 .given .1))) ∙ left y),
-        ),
-      ),
-    ))
-    (λ w. (
-      omega (arith, t),
-      (
-        omega (arith, w .3, l .inv .1 .0),
-        (
-          rw (w .2) (l .inv .1 .1 .0),
-          rw (w .2, w .3) (sym (fill-none (hit x) (l .points) (l .len) (edge y) (rest y) (e ∙ ap answered (w .1 .given .1))) ∙ left y),
-        ),
-      ),
-    ))
+    (λ w. (search needs, gathered-at (here y) (now y .loop .inv .1) _ (t ∙ ap tested.Crossing (w .1 .given .1)) (w .3) (w .4)))
+    (λ w. (search needs, gathered-none (here y) (now y .loop .inv .1) (t ∙ ap tested.Crossing (w .1 .given .1)) (w .2) (w .3)))
     (c .match4 .came)
 
 returns-6 : tie.Need-returns-6 Inv-loop μ-loop
 returns-6 c =
     let x = c .before .before in
     let l = c .before .loop in
-    let e = sym (filled x) ∙ sym (l .inv .1 .1 .1) ∙ ap (fill (hit x) (l .points) (l .len)) (done (region x) (l .from) (l .i) (long (start-of x) (few x)) (c .loop-test .left)) ∙ fill-done (hit x) (l .points) (l .len) in
-    subst (Lists _) (whole x) (lists-done _ _ e)
+    gathered-done (l .inv .1) _ (whole x) (done (region x) (l .from) (l .i) (long (start-of x) (few x)) (c .loop-test .left))
 
 pub intersect-great-circle-arc-all-spec : {M : Type 1} → statement M
 intersect-great-circle-arc-all-spec =

@@ -3,24 +3,18 @@
 -- The measure is how many edges are left.
 use Prim.Native.Nat.{_+_, _-_, _≤_}
 use native.Mathlib.Omega.{arith}
-use mathlib.Core.Path.{_≡_, refl, sym, ap, subst, _∙_}
+use mathlib.Core.Path.{_≡_, sym, ap, subst, _∙_}
 use mathlib.Core.Logic.{⊎-elim}
-use mathlib.Core.List.{List, []}
 use borrow.Author.Needs.{needs}
-use lib.ListN.{length, getD, length-set}
-use Rattle.coo3d.specs.declared.UnitVect3.{UnitVect3}
-use Rattle.crossings.specs.declared.Crossing.{Crossing}
+use lib.ListN.{length, getD}
 use Rattle.crossings.specs.declared.Tested.the-variants as tested
-use Rattle.crossings.specs.Crossings.{zeros, listOf, Lists}
-use Rattle.crossings.proofs.Fill.{fill, fill-done, fill-all, lists-done, lists-refused}
+use Rattle.crossings.specs.Crossings.{crossingsOf, allOf, Lists}
+use Rattle.crossings.proofs.Gather.{Turn, turned, Gathered, gathered-start, gathered-none, gathered-at, gathered-refused, gathered-done}
 use Rattle.domain.proofs.Counts.{count-none, count-many}
-use Rattle.refusal.specs.Answer.{Answer, answered, refused, andThen}
-use Rattle.region.specs.Edges.{Edge}
 use Rattle.region.specs.View.{viewOf, nowhere, edgesOf}
 use Rattle.region.proofs.Edges.{edgesLeft, start, turn, done, edges-length}
 use Rattle.region.proofs.Lengths.{unmap}
 use Rattle.parallels.proofs.Given.{parallel-refused, parallel-passed}
-use Rattle.parallels.proofs.All.{Turn, turn-none, turn-at, turn-refused}
 use Rattle.parallels.specs.Parallels.{parallelCrossing}
 use Rattle.parallels.specs.Queries.{parallelAllOf}
 use Rattle.parallels.proofs.intersect_parallel_all.Statement.{statement}
@@ -28,8 +22,7 @@ use Rattle.parallels.proofs.intersect_parallel_all.Tie as tie
 
 abbrev Inv-loop : tie.InvT-loop
 Inv-loop lat lat-sin lat-cos r count points₀ len₀ last from₀ i₀ points len from i =
-    let hit = parallelCrossing lat lat-sin lat-cos in
-    (i ≤ r .count) × ((len ≤ i) × ((length points ≡ 64) × (fill hit points len (edgesLeft r from i) ≡ fill hit zeros 0 (edgesOf (viewOf r)))))
+    (i ≤ r .count) × Gathered (parallelCrossing lat lat-sin lat-cos) (edgesOf (viewOf r)) (edgesLeft r from i) points len i
 
 abbrev μ-loop : tie.MeasureT-loop
 μ-loop lat lat-sin lat-cos r count points₀ len₀ last from₀ i₀ points len from i = r .count - i
@@ -39,13 +32,6 @@ long c h = let e : length (c .args .t1 .vertices) ≡ 64 = search unmap in omega
 
 long' : (c : tie.Start Inv-loop μ-loop) → c .args .t1 .count ≤ 64 → c .args .t1 .count ≤ length (c .args .t1 .«cross_products»)
 long' c h = let e : length (c .args .t1 .«cross_products») ≡ 64 = search unmap in omega arith
-
-length-zeros : length zeros ≡ 64
-unfolding zeros
-length-zeros = refl
-
-begun : (hit : Edge → Crossing) (points : List UnitVect3) (es left : List Edge) → points ≡ zeros → es ≡ left → fill hit points 0 left ≡ fill hit zeros 0 es
-begun hit points es left p e = rw (p, e)
 
 refused-requires : tie.Need-refused-requires Inv-loop μ-loop
 refused-requires c κs = search needs
@@ -85,25 +71,19 @@ mul-from c = search needs
 element-copy-out-from : tie.Need-element-copy-out-from Inv-loop μ-loop
 element-copy-out-from c = search needs
 
--- the list so far with the edges that are left comes to the answer, once the tests are passed
-answer : (c : tie.At-loop Inv-loop μ-loop)
-    → let a = c .before .before .before .before .before .before .before .args in
-    let l = c .loop in
-    andThen (parallelAllOf (viewOf (a .t1)) (a .lat) (a .lat-sin) (a .lat-cos)) (λ qs. answered (listOf qs)) ≡ fill (parallelCrossing (a .lat) (a .lat-sin) (a .lat-cos)) (l .points) (l .len) (edgesLeft (a .t1) (l .from) (l .i))
-unfolding parallelAllOf
-answer c =
-    let s = c .before .before .before .before .before .before .before in
-    ap (λ (x : Answer (List UnitVect3)). andThen x (λ qs. answered (listOf qs))) (parallel-passed (viewOf (s .args .t1)) _ _ _ _ (search needs) (search needs) _ (c .before .before .before .before .is-parallel .ensures) (c .before .before .before .if3 .left))
-    ∙ sym (fill-all _ (edgesOf (viewOf (s .args .t1))) (omega (arith, edges-length (s .args .t1))))
-    ∙ sym (c .loop .inv .1 .1 .1)
+-- the answer, once the tests are passed
+module _ (c : tie.At-loop Inv-loop μ-loop) where
+  abbrev args : tie.Start Inv-loop μ-loop
+  args = c .before .before .before .before .before .before .before
+
+  whole : allOf (crossingsOf (parallelCrossing (args .args .lat) (args .args .lat-sin) (args .args .lat-cos)) (edgesOf (viewOf (args .args .t1)))) ≡ parallelAllOf (viewOf (args .args .t1)) (args .args .lat) (args .args .lat-sin) (args .args .lat-cos)
+  unfolding parallelAllOf
+  whole = sym (parallel-passed (viewOf (args .args .t1)) _ _ _ _ (search needs) (search needs) _ (c .before .before .before .before .is-parallel .ensures) (c .before .before .before .if3 .left))
 
 loop-holds : tie.Need-loop-holds Inv-loop μ-loop
 loop-holds c =
     let s = c .before .before .before .before .before .before in
-    let a = s .args in
-    let zero = c .before .no-points .ensures in
-    let edges = start (a .t1) (search needs) (long s (search needs)) in
-    (search needs, (search needs, (ap length zero ∙ length-zeros, begun (parallelCrossing (a .lat) (a .lat-sin) (a .lat-cos)) _ _ _ zero edges)))
+    (search needs, gathered-start (omega (arith, edges-length (s .args .t1))) (c .before .no-points .ensures) (start (s .args .t1) (search needs) (long s (search needs))))
 
 mul-to : tie.Need-mul-to Inv-loop μ-loop
 mul-to c = search needs
@@ -136,22 +116,16 @@ here : (c : tie.After-test-finite Inv-loop μ-loop)
     Turn (parallelCrossing (a .lat) (a .lat-sin) (a .lat-cos)) (edgesLeft (a .t1) (l .from) (l .i)) (edgesLeft (a .t1) (getD (a .t1 .vertices) (l .i) nowhere) (l .i + 1)) (c .test-finite .result)
 here c =
     let s = c .before .before .before .before .before .before .before .before .before .before .before .before in
-    let l = c .before .before .before .before .before .loop in
-    record {
-      edge = _;
-      crossing = _;
-      next = turn (s .args .t1) (l .from) (l .i) (long s (search needs)) (long' s (search needs)) (search needs);
-      crossed = c .before .parallel-crossing .ensures;
-      told = c .test-finite .ensures;
-    }
+    turned (turn (s .args .t1) _ _ (long s (search needs)) (long' s (search needs)) (search needs)) (c .before .parallel-crossing .ensures) (c .test-finite .ensures)
 
 refused-requires-4 : tie.Need-refused-requires-4 Inv-loop μ-loop
 refused-requires-4 c κs = search needs
 
 returns-4 : tie.Need-returns-4 Inv-loop μ-loop
 returns-4 c =
-    let q = c .before .before .before in
-    lists-refused _ _ 6 [] (answer (q .before .before .before .before .before) ∙ turn-refused (here q) _ _ _ (c .before .enum-told .given .1)) (c .refused4 .ensures)
+    let y = c .before .before .before in
+    let x = y .before .before .before .before .before in
+    gathered-refused (x .loop .inv .1) _ (whole x) (here y) _ (c .before .enum-told .given .1) _ (c .refused4 .ensures)
 
 enum-known-c-2 : tie.Need-enum-known-c-2 Inv-loop μ-loop
 enum-known-c-2 c = search needs
@@ -176,37 +150,19 @@ loop-less c = search needs
 
 loop-again : tie.Need-loop-again Inv-loop μ-loop
 loop-again c =
-    let q = c .before .before .before .before in
-    let l = q .before .before .before .before .before .loop in
+    let y = c .before .before .before .before in
+    let g = y .before .before .before .before .before .loop .inv .1 in
     let t = c .before .before .c .given .1 in
     ⊎-elim
-    (λ w. (
-      search needs,
-      (
-        omega (arith, w .4),
-        (
-          rw (w .3, length-set) (l .inv .1 .1 .0),
-          rw (w .3, w .4) (turn-at (here q) (l .points) (l .len) _ (t ∙ ap tested.Crossing (w .1 .given .1)) ∙ l .inv .1 .1 .1),
-        ),
-      ),
-    ))
-    (λ w. (
-      search needs,
-      (
-        omega (arith, w .3),
-        (
-          rw (w .2) (l .inv .1 .1 .0),
-          rw (w .2, w .3) (turn-none (here q) (l .points) (l .len) (t ∙ ap tested.Crossing (w .1 .given .1)) ∙ l .inv .1 .1 .1),
-        ),
-      ),
-    ))
+    (λ w. (search needs, gathered-at (here y) g _ (t ∙ ap tested.Crossing (w .1 .given .1)) (w .3) (w .4)))
+    (λ w. (search needs, gathered-none (here y) g (t ∙ ap tested.Crossing (w .1 .given .1)) (w .2) (w .3)))
     (c .match2 .came)
 
 returns-5 : tie.Need-returns-5 Inv-loop μ-loop
 returns-5 c =
-    let s = c .before .before .before .before .before .before .before .before in
-    let l = c .before .loop in
-    lists-done _ _ (answer (c .before) ∙ ap (fill _ (l .points) (l .len)) (done (s .args .t1) (l .from) (l .i) (long s (search needs)) (c .loop-test .left)) ∙ fill-done _ _ _)
+    let x = c .before in
+    let l = x .loop in
+    gathered-done (l .inv .1) _ (whole x) (done (args x .args .t1) (l .from) (l .i) (long (args x) (search needs)) (c .loop-test .left))
 
 pub intersect-parallel-all-spec : {M : Type 1} → statement M
 intersect-parallel-all-spec =
