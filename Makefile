@@ -9,7 +9,7 @@ LISTS ?= 10000
 .PHONY: help setup demo test differential lists fixed-list
 
 help:
-	@echo 'make demo          runs the example: fixes against a region and a zone, crossings, refusals'
+	@echo 'make demo          runs the example: fixes against a region and a zone, crossings, edits, refusals'
 	@echo 'make test          the whole gate: proofs, must-fail edits, fixed list, comparison with upstream'
 	@echo 'make differential  SEED=n COUNT=n: compares that many requests with upstream'
 	@echo 'make lists         SEED=n LISTS=n: compares that many lists of 1 to 200 edits with upstream'
