@@ -64,3 +64,8 @@ far-end l n i out long e = rw (none-left l n i long (omega arith), append-nil, e
 pub points-count : (l : List Coo3D) (n : ℕ) (qs : List Coo3D) → pointsOf l n ≡ answered qs → (0 < n) × (n ≤ 64)
 unfolding pointsOf
 points-count l n qs = count-answered n (pointsFrom 0 (take n l)) qs
+
+-- the points past the count do not matter
+pub points-first : (l m : List Coo3D) (n : ℕ) → take n l ≡ take n m → pointsOf l n ≡ pointsOf m n
+unfolding pointsOf
+points-first l m n e = rw e

@@ -3,3 +3,4 @@ pub mod Edges
 pub mod Corners
 pub mod Odd
 pub mod Flags
+pub mod Builds

@@ -198,7 +198,8 @@ pub fn contains(r: Region, coo: Coo3D) -> Decision
     refusal::decide(r.contains_south_pole != odd_num_intersect_going_south(r, p))
 }
 
-fn refused(cause: Cause) -> Built
+// A refused build; its region is free.
+pub fn refused(cause: Cause) -> Built
     ensures { λ b. ⌜ outcomeOf (b .outcome) (viewOf (b .region)) ≡ refusedFor cause ⌝ }
 {
     let origin = Coo3D {

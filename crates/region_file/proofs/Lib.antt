@@ -1,0 +1,4 @@
+pub mod Numbers
+pub mod Trailers
+pub mod Reading
+pub mod Writing

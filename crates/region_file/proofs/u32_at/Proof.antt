@@ -1,0 +1,50 @@
+-- `region_file::u32_at` meets its contract. Assumes nothing.
+use mathlib.Core.Path.{sym, _∙_}
+use Rattle.region_file.proofs.Numbers.{at-four}
+use borrow.Author.Needs.{needs}
+use Rattle.region_file.proofs.u32_at.Statement.{statement}
+use Rattle.region_file.proofs.u32_at.Tie as tie
+use Rattle.region_file.proofs.u32_at.Reads as reads
+use Rattle.region_file.proofs.u32_at.Lts as lts
+use Rattle.region_file.proofs.join.Reads as join-reads
+
+shared-slice-read-join : tie.Need-shared-slice-read-join
+shared-slice-read-join c = search needs
+
+add-join : tie.Need-add-join
+add-join c = search needs
+
+shared-slice-read-join-2 : tie.Need-shared-slice-read-join-2
+shared-slice-read-join-2 c = search needs
+
+add-join-2 : tie.Need-add-join-2
+add-join-2 c = search needs
+
+shared-slice-read-join-3 : tie.Need-shared-slice-read-join-3
+shared-slice-read-join-3 c = search needs
+
+add-join-3 : tie.Need-add-join-3
+add-join-3 c = search needs
+
+shared-slice-read-join-4 : tie.Need-shared-slice-read-join-4
+shared-slice-read-join-4 c = search needs
+
+join-requires : tie.Need-join-requires
+join-requires c κs = search needs
+
+returns : tie.Need-returns
+returns c = c .join .ensures ∙ sym (at-four _ _ (search needs))
+
+pub u32-at-spec : {M : Type 1} → statement M
+u32-at-spec =
+    tie.close
+    (tie.spec
+    shared-slice-read-join
+    add-join
+    shared-slice-read-join-2
+    add-join-2
+    shared-slice-read-join-3
+    add-join-3
+    shared-slice-read-join-4
+    join-requires
+    returns)
