@@ -1,0 +1,3 @@
+pub mod EqualLongitudes
+pub mod OneCorner
+pub mod Cases
