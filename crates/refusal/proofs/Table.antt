@@ -1,5 +1,6 @@
 -- No two causes have the same number and values: a cause is read back from them. So an answer fixes the cause of its refusal.
-use Prim.Native.Nat.{ℕ}
+use Prim.Native.Nat.{ℕ, _≤_}
+use native.Mathlib.Omega.{arith}
 use mathlib.Core.Path.{_≡_, refl, sym, ap, _∙_}
 use mathlib.Core.Bool.{cond}
 use mathlib.Core.List.{List, [], _∷_}
@@ -38,3 +39,15 @@ read-back ZoneBounds = refl
 
 pub one-cause : (a b : Cause) → numberOf a ≡ numberOf b → valuesOf a ≡ valuesOf b → a ≡ b
 one-cause a b n v = sym (read-back a) ∙ ap (λ (k : ℕ). causeFor k (valuesOf a)) n ∙ ap (causeFor (numberOf b)) v ∙ read-back b
+
+-- the table ends with 9
+pub number-small : (c : Cause) → numberOf c ≤ 9
+number-small (OutsideDomain i) = omega arith
+number-small NoPoint = omega arith
+number-small TooManyPoints = omega arith
+number-small NoSuchIndex = omega arith
+number-small NoSuchParallel = omega arith
+number-small NotFinite = omega arith
+number-small WrongTrailer = omega arith
+number-small (ShortOutput n) = omega arith
+number-small ZoneBounds = omega arith
