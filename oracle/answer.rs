@@ -2,15 +2,16 @@
 //! The refusals, which upstream does not have, are written here from the scope's table.
 
 mod record;
+mod region_file;
 
 use std::io::{self, BufWriter, Write};
 use std::process::ExitCode;
 
 use record::Region;
 use stream::{
-    answered, read_request, status, within, write_word, zone_bounds_hold, Call, Next, Outcome,
-    Words, KINDS, MOST_POINTS, PARALLEL_BOUNDS, POINT_BOUNDS, POINT_WORDS, VECTOR_BOUNDS,
-    VECTOR_WORDS,
+    answered, bytes_and_rest, read_request, status, within, words_of, write_word, zone_bounds_hold,
+    Call, Next, Outcome, Words, KINDS, MOST_POINTS, PARALLEL_BOUNDS, POINT_BOUNDS, POINT_WORDS,
+    VECTOR_BOUNDS, VECTOR_WORDS,
 };
 use upstream::sph_geom::cone::Cone;
 use upstream::sph_geom::coo3d::{Coo3D, LonLatT, UnitVect3, Vec3, Vect3};
@@ -131,6 +132,24 @@ fn answer_one(call: Call, request: &[u64], kept: &mut Kept, answer: &mut Vec<u64
             let yes = region.is_intersecting_parallel(lat, sine, cosine);
             answer.push(u64::from(yes));
         }
+        Call::WriteFile => {
+            let mut output = vec![region_file::UNTOUCHED; request[0] as usize];
+            answer.push(region_file::write(region(kept)?, &mut output)?);
+            answer.extend(words_of(&output));
+        }
+        Call::ReadFile => {
+            let (file, _) = bytes_and_rest(request);
+            kept.region = Ok(Region::made(region_file::read(&file)?));
+        }
+        Call::DoorContains => {
+            let (file, point) = bytes_and_rest(request);
+            answer.push(region_file::returned(region_file::contains(&file, point)));
+        }
+        Call::DoorHold => {
+            let (mut file, point) = bytes_and_rest(request);
+            answer.push(region_file::returned(region_file::hold(&mut file, point)));
+            answer.extend(words_of(&file));
+        }
         Call::Root => answer.push(answered(double(request[0]).sqrt())),
         Call::ZoneNew => kept.zone = Some(zone_new(request)?),
         Call::ZoneRest => {
@@ -243,12 +262,16 @@ fn dump(region: &Polygon, answer: &mut Vec<u64>) {
     answer.push(region.vertices.len() as u64);
     answer.push(u64::from(region.contains_south_pole));
     for corner in &region.vertices {
-        answer.extend(components(corner));
-        answer.extend([corner.lon(), corner.lat()].map(answered));
+        answer.extend(fields(corner));
     }
     for normal in &region.cross_products {
         answer.extend(components(normal));
     }
+}
+
+fn fields(point: &Coo3D) -> [u64; POINT_WORDS] {
+    let [x, y, z] = components(point);
+    [x, y, z, answered(point.lon()), answered(point.lat())]
 }
 
 fn components<V: Vec3>(vector: &V) -> [u64; VECTOR_WORDS] {

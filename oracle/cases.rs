@@ -1,9 +1,9 @@
 //! In which case of upstream's parallel calls an edge falls: our own reading of its conditions,
 //! for compare's report alone. No comparison rests on it.
 
-use stream::{Call, MOST_POINTS, POINT_WORDS};
+use stream::{bytes_and_rest, Call, MOST_POINTS, POINT_WORDS};
 
-use crate::edges::{cross, vector, Kept, Point, Vector};
+use crate::edges::{cross, doubles, entries, vector, Kept, Point, Vector};
 
 /// The cases, by upstream's own letters. A is a normal with an x other than 0, B one without.
 #[derive(Clone, Copy, PartialEq, Eq)]
@@ -43,6 +43,10 @@ impl Kept {
                 *self = Kept::built(entries(&request[2 + POINT_WORDS..]).collect());
             }
             Call::RegionValue => *self = handed_in(request),
+            Call::ReadFile => {
+                let (file, _) = bytes_and_rest(request);
+                *self = Kept::read(&file).unwrap_or_default();
+            }
             Call::Put => self.put(request[0], doubles(&request[1..])),
             Call::Insert => self.insert(request[0], doubles(&request[1..])),
             Call::Remove => self.remove(request[0]),
@@ -127,14 +131,6 @@ fn case(start: &Point, end: &Point, n: &Vector, lat: f64, z: f64, cosine: f64) -
             Case::B2Second
         }
     }
-}
-
-fn entries<const N: usize>(words: &[u64]) -> impl Iterator<Item = [f64; N]> + '_ {
-    words.chunks_exact(N).map(doubles)
-}
-
-fn doubles<const N: usize>(words: &[u64]) -> [f64; N] {
-    std::array::from_fn(|i| f64::from_bits(words[i]))
 }
 
 fn dot(a: &Vector, b: &Vector) -> f64 {

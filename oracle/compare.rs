@@ -74,14 +74,14 @@ impl<'a> Side<'a> {
         })
     }
 
-    fn read(&mut self, kind: &Kind) -> Result<(), String> {
-        self.whole = read_answer(&mut self.stream.words, kind, &mut self.answer)
+    fn read(&mut self, kind: &Kind, request: &[u64]) -> Result<(), String> {
+        self.whole = read_answer(&mut self.stream.words, kind, request, &mut self.answer)
             .map_err(|e| self.stream.failed(e))?;
         Ok(())
     }
 
-    fn describe(&self, kind: &Kind) -> Vec<String> {
-        let mut lines = describe_answer(kind, &self.answer);
+    fn describe(&self, kind: &Kind, request: &[u64]) -> Vec<String> {
+        let mut lines = describe_answer(kind, request, &self.answer);
         if !self.whole {
             lines.push("the answer is not whole".to_string());
         }
@@ -93,7 +93,7 @@ impl<'a> Side<'a> {
 #[derive(Clone, Default)]
 struct Tally {
     count: u64,
-    /// By status, or by class of the double where there is none.
+    /// By status; where there is none by what a door returned, or by class of the double.
     outcomes: BTreeMap<u64, u64>,
     /// For each pole rule, how many requests there were and how many were not refused.
     rules: [(u64, u64); RULES.len()],
@@ -109,7 +109,7 @@ impl Tally {
     fn add(&mut self, kind: &Kind, request: &[u64], answer: &[u64], region: &Kept) {
         self.count += 1;
         let outcome = match kind.outcome {
-            Outcome::Status => answer[0],
+            Outcome::Status | Outcome::Door => answer[0],
             Outcome::Double => match f64::from_bits(answer[0]).classify() {
                 FpCategory::Normal | FpCategory::Subnormal => 0,
                 FpCategory::Zero => 1,
@@ -128,7 +128,7 @@ impl Tally {
         }
         if done {
             self.sizes.resize(kind.answer.len(), ([0; 4], 0));
-            // Lists stand last in an answer, so that the parts before them are one word each.
+            // Lists and bytes stand last in an answer: the parts before them are one word each.
             for ((sizes, greatest), &word) in self.sizes.iter_mut().zip(&answer[1..]) {
                 sizes[word.min(3) as usize] += 1;
                 *greatest = word.max(*greatest);
@@ -151,6 +151,7 @@ impl Tally {
             .iter()
             .map(|(&outcome, count)| match kind.outcome {
                 Outcome::Status => format!("status {outcome}: {count}"),
+                Outcome::Door => format!("returned {outcome}: {count}"),
                 Outcome::Double => format!("{}: {count}", CLASSES[outcome as usize]),
             })
             .collect();
@@ -174,6 +175,7 @@ impl Tally {
             match part {
                 Part::YesNo(name) => detail(&format!("{name}: no {none}, yes {one}")),
                 Part::Found(name) => detail(&format!("{name}: none {none}, one {one}")),
+                Part::Number(name) => detail(&format!("{name}: at most {greatest}")),
                 Part::Count(name) => detail(&format!(
                     "{name} 0: {none}, 1: {one}, 2: {two}, 3 or more: {more}, at most {greatest}"
                 )),
@@ -264,8 +266,8 @@ fn compare(requests: &str, a: &str, b: &str) -> Result<bool, String> {
             Next::Broken(reason) => break Some(reason),
         };
         let kind = &KINDS[row];
-        a.read(kind)?;
-        b.read(kind)?;
+        a.read(kind, &request)?;
+        b.read(kind, &request)?;
         if a.answer != b.answer || !a.whole || !b.whole {
             println!(
                 "request {} (counted from 1) is answered differently: {} {}",
@@ -291,8 +293,12 @@ fn compare(requests: &str, a: &str, b: &str) -> Result<bool, String> {
                 | Call::GreatCircleAll
                 | Call::ParallelFirst
                 | Call::ParallelAll
-                | Call::IsIntersectingParallel => region.print("the region kept"),
+                | Call::IsIntersectingParallel
+                | Call::WriteFile => region.print("the region kept"),
                 Call::Build
+                | Call::ReadFile
+                | Call::DoorContains
+                | Call::DoorHold
                 | Call::Root
                 | Call::ZoneNew
                 | Call::BoundingCone
@@ -300,7 +306,8 @@ fn compare(requests: &str, a: &str, b: &str) -> Result<bool, String> {
             }
             for (side, other) in [(&a, &b), (&b, &a)] {
                 println!("answer in {}:", side.stream.path);
-                print_lines(&side.describe(kind), Some(&other.describe(kind)));
+                let other = other.describe(kind, &request);
+                print_lines(&side.describe(kind, &request), Some(&other));
             }
             return Ok(false);
         }
@@ -308,7 +315,7 @@ fn compare(requests: &str, a: &str, b: &str) -> Result<bool, String> {
         let outcome = a.answer[0];
         match kind.call {
             Call::ZoneNew if outcome == status::DONE => zone.set(row, &request),
-            Call::Build | Call::RegionValue if outcome == status::DONE => {
+            Call::Build | Call::ReadFile | Call::RegionValue if outcome == status::DONE => {
                 region.set(row, &request);
             }
             call if EDITS.contains(&call) => region.edit(row, outcome, &request),

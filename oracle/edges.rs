@@ -1,7 +1,10 @@
 //! The region kept and its edges as we read upstream: what generate aims at, and what compare's
 //! table of cases rests on. No answer comes from here.
 
-use stream::{MOST_POINTS, POINT_WORDS, VECTOR_WORDS};
+use stream::{
+    corner_words, file_length, trailer, within, EDITION, MOST_POINTS, POINT_BOUNDS, POINT_WORDS,
+    VECTOR_WORDS,
+};
 
 /// x, y, z, lon, lat.
 pub type Point = [f64; POINT_WORDS];
@@ -41,6 +44,21 @@ impl Kept {
         }
     }
 
+    /// What a file holds, where reading it is not refused.
+    pub fn read(file: &[u8]) -> Option<Self> {
+        let [edition, flag, count, distance] = trailer(file)?;
+        let length = file_length(count as usize);
+        let fits = edition == EDITION
+            && flag <= 1
+            && (1..=MOST_POINTS).contains(&count.into())
+            && distance as usize == length
+            && length <= file.len();
+        let corners: Vec<Point> =
+            fits.then(|| entries(&corner_words(file, count as usize)).collect())?;
+        let legal = corners.iter().all(|corner| within(corner, &POINT_BOUNDS));
+        legal.then(|| Kept::built(corners))
+    }
+
     pub fn put(&mut self, index: u64, corner: Point) {
         if index < self.corners.len() as u64 {
             let at = index as usize;
@@ -77,6 +95,14 @@ impl Kept {
         let (start, end) = ((edge + count - 1) % count, edge % count);
         self.normals[end] = normal(&self.corners[start], &self.corners[end]);
     }
+}
+
+pub fn entries<const N: usize>(words: &[u64]) -> impl Iterator<Item = [f64; N]> + '_ {
+    words.chunks_exact(N).map(doubles)
+}
+
+pub fn doubles<const N: usize>(words: &[u64]) -> [f64; N] {
+    std::array::from_fn(|i| f64::from_bits(words[i]))
 }
 
 fn normal(start: &Point, end: &Point) -> Vector {

@@ -3,22 +3,26 @@
 //!
 //! Of a hundred requests outside a list (`CALL_SHARES`)
 //!
-//! - 16 are builds and 4 region values; after every second one the region is asked for besides
-//!   (`REGION_SHARE`), and after some a list of edits begins (`LIST_AFTER_BUILD`,
-//!   `LIST_AFTER_FULL_BUILD`, `LIST_AFTER_VALUE`), so that about six requests of ten stand in lists;
-//! - 12 ask whether a point is contained;
-//! - 15 are arcs: 6 first, 6 all, 3 is intersecting;
-//! - 7 are great circles;
-//! - 16 are parallels: 6 first, 7 all, 3 is intersecting;
-//! - 8 are roots, 5 new zones, 9 questions to the zone kept and 8 bounding cones.
+//! - 12 are builds, 8 files to read and 4 region values; after every second one the region is
+//!   asked for besides (`REGION_SHARE`), after every eighth its file (`WRITE_SHARE`), and after
+//!   some a list of edits begins (`LIST_AFTER_BUILD`, `LIST_AFTER_FULL_BUILD`, `LIST_AFTER_READ`,
+//!   `LIST_AFTER_VALUE`), so that about six requests of ten stand in lists;
+//! - 3 ask for the region's file;
+//! - 14 are C doors: 7 contains, 7 hold;
+//! - 8 ask whether a point is contained;
+//! - 12 are arcs: 5 first, 5 all, 2 is intersecting;
+//! - 5 are great circles;
+//! - 13 are parallels: 5 first, 6 all, 2 is intersecting;
+//! - 6 are roots, 4 new zones, 6 questions to the zone kept and 5 bounding cones.
 //!
 //! A list has 1 to 200 edits, whose shares stand in edits.rs. Of a hundred requests in it 40 are
-//! questions to the region (`QUESTION_SHARE`): 12 ask for the region, 12 whether a point is
-//! contained, 16 are arcs, great circles and parallels (`QUESTION_SHARES`).
+//! questions to the region (`QUESTION_SHARE`): 11 ask for the region, 11 whether a point is
+//! contained, 14 are arcs, great circles and parallels, 4 ask for the region's file; and of a
+//! thousand 4 are files to read (`QUESTION_SHARES`).
 //!
-//! In a run of lists each starts from a build that is not refused or, 15 of a hundred, from a value
-//! (`VALUE_LIST_SHARE`). After 25 of a hundred edits the region is asked for (`REGION_AFTER_EDIT`),
-//! and after 25 whether a point is contained (`CONTAINS_AFTER_EDIT`).
+//! In a run of lists each starts from a build that is not refused or, 15 of a hundred each, from a
+//! value or from a file that is not refused (`START_SHARES`). What is asked after an edit stands in
+//! `AFTER_EDIT`.
 //!
 //! Each question and each edit is asked once at the start, before there is a region or a zone. From
 //! then on it is aimed at the region that the builds, values and edits so far have left.
@@ -32,13 +36,14 @@
 //! - 10 are raw: random bit patterns; but for roots, every second time held to small exponents, as
 //!   few others come past the tests of the domain.
 //!
-//! Region values have shares of their own (`VALUE_CLASS_SHARES`). How many points there are is
-//! drawn by `CONE_SHARES`, `CORNER_SHARES` and `VALUE_SHARES`; besides, one cone or build in
-//! `LONG_ONE_IN` has up to 4,096.
+//! Region values and files have shares of their own (`VALUE_CLASS_SHARES`, `FILE_CLASS_SHARES`).
+//! How many points there are is drawn by `CONE_SHARES`, `CORNER_SHARES`, `VALUE_SHARES` and
+//! `FILE_SHARES`; besides, one cone or build in `LONG_ONE_IN` has up to 4,096.
 
 mod draw;
 mod edges;
 mod edits;
+mod files;
 mod points;
 mod queries;
 mod regions;
@@ -53,7 +58,8 @@ use edits::List;
 use points::{point_count, points, CountShare};
 use regions::{build, region_value, Build};
 use stream::{
-    within, write_word, zone_bounds_hold, Call, EDITS, HALF_PI, MOST_POINTS, POINT_BOUNDS, TWO_PI,
+    within, words_of, write_word, zone_bounds_hold, Call, EDITS, HALF_PI, MOST_POINTS,
+    POINT_BOUNDS, TWO_PI,
 };
 
 const CLASS_SHARES: [(Class, u64); 4] = [
@@ -63,25 +69,29 @@ const CLASS_SHARES: [(Class, u64); 4] = [
     (Class::Raw, 10),
 ];
 
-const CALL_SHARES: [(Call, u64); 14] = [
-    (Call::Build, 16),
+const CALL_SHARES: [(Call, u64); 18] = [
+    (Call::Build, 12),
     (Call::RegionValue, 4),
-    (Call::Contains, 12),
-    (Call::ArcFirst, 6),
-    (Call::ArcAll, 6),
-    (Call::IsIntersectingArc, 3),
-    (Call::GreatCircleAll, 7),
-    (Call::ParallelFirst, 6),
-    (Call::ParallelAll, 7),
-    (Call::IsIntersectingParallel, 3),
-    (Call::Root, 8),
-    (Call::ZoneNew, 5),
-    (Call::ZoneRest, 9),
-    (Call::BoundingCone, 8),
+    (Call::Contains, 8),
+    (Call::ArcFirst, 5),
+    (Call::ArcAll, 5),
+    (Call::IsIntersectingArc, 2),
+    (Call::GreatCircleAll, 5),
+    (Call::ParallelFirst, 5),
+    (Call::ParallelAll, 6),
+    (Call::IsIntersectingParallel, 2),
+    (Call::WriteFile, 3),
+    (Call::ReadFile, 8),
+    (Call::DoorContains, 7),
+    (Call::DoorHold, 7),
+    (Call::Root, 6),
+    (Call::ZoneNew, 4),
+    (Call::ZoneRest, 6),
+    (Call::BoundingCone, 5),
 ];
 
 /// Asked before there is a zone or a region, as are the edits.
-const FIRST_CALLS: [Call; 10] = [
+const FIRST_CALLS: [Call; 11] = [
     Call::Region,
     Call::Contains,
     Call::ArcFirst,
@@ -91,46 +101,61 @@ const FIRST_CALLS: [Call; 10] = [
     Call::ParallelFirst,
     Call::ParallelAll,
     Call::IsIntersectingParallel,
+    Call::WriteFile,
     Call::ZoneRest,
 ];
 
-/// Of a hundred builds and region values after how many the region is asked for.
+/// Of a hundred builds, files read and region values after how many the region is asked for.
 const REGION_SHARE: u64 = 50;
 
+/// The same of the region's file.
+const WRITE_SHARE: u64 = 12;
+
 /// Of a hundred builds after how many a list of edits begins.
-const LIST_AFTER_BUILD: u64 = 14;
+const LIST_AFTER_BUILD: u64 = 12;
 
 /// The same of builds that leave a region of 63 or 64 corners.
 const LIST_AFTER_FULL_BUILD: u64 = 60;
 
+/// The same of files read.
+const LIST_AFTER_READ: u64 = 9;
+
 /// The same of region values.
-const LIST_AFTER_VALUE: u64 = 30;
+const LIST_AFTER_VALUE: u64 = 27;
 
 /// Of a hundred requests in a list how many are questions.
 const QUESTION_SHARE: u64 = 40;
 
-const QUESTION_SHARES: [(Call, u64); 9] = [
-    (Call::Region, 30),
-    (Call::Contains, 30),
-    (Call::ArcFirst, 6),
-    (Call::ArcAll, 7),
+/// A file that is read puts its region in the place of the one edited so far.
+const QUESTION_SHARES: [(Call, u64); 11] = [
+    (Call::Region, 27),
+    (Call::Contains, 27),
+    (Call::ArcFirst, 5),
+    (Call::ArcAll, 6),
     (Call::IsIntersectingArc, 3),
-    (Call::GreatCircleAll, 7),
+    (Call::GreatCircleAll, 6),
     (Call::ParallelFirst, 6),
-    (Call::ParallelAll, 8),
+    (Call::ParallelAll, 7),
     (Call::IsIntersectingParallel, 3),
+    (Call::WriteFile, 9),
+    (Call::ReadFile, 1),
 ];
 
 // A run of lists of edits has its own shares.
 
-/// Of a hundred lists how many start from a region value.
-const VALUE_LIST_SHARE: u64 = 15;
+/// Of a hundred lists how many start from what.
+const START_SHARES: [(Call, u64); 3] = [
+    (Call::Build, 70),
+    (Call::RegionValue, 15),
+    (Call::ReadFile, 15),
+];
 
-/// Of a hundred edits after how many the region is asked for.
-const REGION_AFTER_EDIT: u64 = 25;
-
-/// The same of whether a point is contained.
-const CONTAINS_AFTER_EDIT: u64 = 25;
+/// Of a hundred edits after how many each of these is asked.
+const AFTER_EDIT: [(Call, u64); 3] = [
+    (Call::Region, 25),
+    (Call::Contains, 25),
+    (Call::WriteFile, 3),
+];
 
 const CONE_SHARES: [CountShare; 9] = [
     ((0, 0), 20),
@@ -535,12 +560,14 @@ impl Run {
             let begins = match call {
                 Call::Build if full => LIST_AFTER_FULL_BUILD,
                 Call::Build => LIST_AFTER_BUILD,
+                Call::ReadFile => LIST_AFTER_READ,
                 Call::RegionValue => LIST_AFTER_VALUE,
                 _ => continue,
             };
             let draw = &mut self.draw;
             due.extend(draw.percent(REGION_SHARE).then_some(Call::Region));
-            if draw.percent(begins) {
+            due.extend(draw.percent(WRITE_SHARE).then_some(Call::WriteFile));
+            if list.left == 0 && draw.percent(begins) {
                 list = List::mixed(draw);
             }
         }
@@ -550,21 +577,24 @@ impl Run {
     /// That many lists of edits.
     fn lists(&mut self, count: u64) -> io::Result<()> {
         for _ in 0..count {
-            if self.draw.percent(VALUE_LIST_SHARE) {
-                self.request(Call::RegionValue)?;
-            } else {
-                let build = self.build_not_refused();
-                write_word(&mut self.out, Call::Build as u64)?;
-                self.write_build(build)?;
+            match self.draw.by_share(&START_SHARES) {
+                Call::Build => {
+                    let build = self.build_not_refused();
+                    write_word(&mut self.out, Call::Build as u64)?;
+                    self.write_build(build)?;
+                }
+                Call::ReadFile => {
+                    let file = self.file_not_refused();
+                    write_word(&mut self.out, Call::ReadFile as u64)?;
+                    self.write_read(&file)?;
+                }
+                value => self.request(value)?,
             }
             let mut list = List::uniform(&mut self.draw);
             while list.left > 0 {
                 let edit = list.edit(&mut self.draw, &self.region);
                 self.request(edit)?;
-                for (question, share) in [
-                    (Call::Region, REGION_AFTER_EDIT),
-                    (Call::Contains, CONTAINS_AFTER_EDIT),
-                ] {
+                for (question, share) in AFTER_EDIT {
                     if self.draw.percent(share) {
                         self.request(question)?;
                     }
@@ -580,6 +610,15 @@ impl Run {
             let build = build(&mut self.draw, class);
             if build.kept().is_some() {
                 return build;
+            }
+        }
+    }
+
+    fn file_not_refused(&mut self) -> Vec<u8> {
+        loop {
+            let file = files::file(&mut self.draw, &self.region);
+            if Kept::read(&file).is_some() {
+                return file;
             }
         }
     }
@@ -633,6 +672,18 @@ impl Run {
             Call::ParallelFirst | Call::ParallelAll | Call::IsIntersectingParallel => {
                 write(out, &queries::parallel(draw, class, region))?;
             }
+            Call::WriteFile => write_word(out, files::output(draw, region))?,
+            Call::ReadFile => {
+                let file = files::file(draw, region);
+                self.write_read(&file)?;
+            }
+            Call::DoorContains | Call::DoorHold => {
+                let file = files::file(draw, region);
+                let read = Kept::read(&file);
+                write_bytes(out, &file)?;
+                let aim = read.as_ref().unwrap_or(region);
+                write(out, &queries::point(draw, class, aim))?;
+            }
             Call::Root => write(out, &[root(draw, class)])?,
             Call::ZoneNew => {
                 let bounds = zone(draw, class);
@@ -670,6 +721,23 @@ impl Run {
         }
         Ok(())
     }
+
+    fn write_read(&mut self, file: &[u8]) -> io::Result<()> {
+        write_bytes(&mut self.out, file)?;
+        if let Some(kept) = Kept::read(file) {
+            self.region = kept;
+        }
+        Ok(())
+    }
+}
+
+/// A number of bytes, and the bytes.
+fn write_bytes<W: Write>(out: &mut W, bytes: &[u8]) -> io::Result<()> {
+    write_word(out, bytes.len() as u64)?;
+    for word in words_of(bytes) {
+        write_word(out, word)?;
+    }
+    Ok(())
 }
 
 /// A request's doubles keep their bits, those of a NaN as well.

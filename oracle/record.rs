@@ -1,9 +1,9 @@
 //! The region that answer keeps, and its edits.
 //!
-//! A region that was made, by a build and by edits of it, is the plain record: of each edit only
-//! the corners and the flag that it leaves are taken on, and upstream builds them afresh. A value
-//! handed in may have normals that no build gives, so it is edited as it stands, and only the edges
-//! that an edit brings in are worked out.
+//! A region that was made, by a build or from a file and by edits of it, is the plain record: of
+//! each edit only the corners and the flag that it leaves are taken on, and upstream builds them
+//! afresh. A value handed in may have normals that no build gives, so it is edited as it stands,
+//! and only the edges that an edit brings in are worked out.
 
 use stream::{status, CONTROL_POINT_IN, MOST_POINTS};
 use upstream::sph_geom::coo3d::{cross_product, Coo3D, Vec3, Vect3};
@@ -117,14 +117,7 @@ impl Region {
     fn leave(&mut self, corners: Vec<Coo3D>, mut normals: Vec<Vect3>, edges: &[usize]) {
         let flag = self.polygon.contains_south_pole;
         self.polygon = match self.origin {
-            Origin::Made => {
-                let method = if flag {
-                    ContainsSouthPoleMethod::ContainsSouthPole
-                } else {
-                    ContainsSouthPoleMethod::DoNotContainsSouthPole
-                };
-                Polygon::new_custom_vec3(corners.into(), &method)
-            }
+            Origin::Made => afresh(corners, flag),
             Origin::HandedIn => {
                 let count = corners.len();
                 for edge in edges {
@@ -139,6 +132,16 @@ impl Region {
             }
         };
     }
+}
+
+/// Upstream's build of these corners with this flag.
+pub fn afresh(corners: Vec<Coo3D>, flag: bool) -> Polygon {
+    let method = if flag {
+        ContainsSouthPoleMethod::ContainsSouthPole
+    } else {
+        ContainsSouthPoleMethod::DoNotContainsSouthPole
+    };
+    Polygon::new_custom_vec3(corners.into(), &method)
 }
 
 /// An index below this count.

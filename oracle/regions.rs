@@ -200,7 +200,7 @@ pub fn build(draw: &mut Draw, class: Class) -> Build {
 }
 
 /// Corners of an outline; a damaged one is still good here.
-fn outline(draw: &mut Draw, class: Class, count: u64) -> Vec<Point> {
+pub fn outline(draw: &mut Draw, class: Class, count: u64) -> Vec<Point> {
     let mut corners = match class {
         Class::Good | Class::Damaged => good_outline(draw, count),
         Class::Borderline => borderline_outline(draw, count),

@@ -1,5 +1,5 @@
 //! What the programs share: the two streams of 64-bit little-endian words, the table of requests,
-//! the refusals and the bounds that the scope sets.
+//! the refusals and the bounds that the scope sets, and the layout of the region file.
 //!
 //! A further request is a case of `Call` and a row of `KINDS`, with a case of `Part` where its
 //! words are laid out as no other request's are; the compiler then asks for its answer.
@@ -13,7 +13,8 @@ pub const HALF_PI: f64 = 0.5 * PI;
 /// The most points a call takes.
 pub const MOST_POINTS: u64 = 64;
 
-/// The most points a request may give; those past `MOST_POINTS` are read and dropped.
+/// The most points a request may give; those past `MOST_POINTS` are read and dropped. Also the most
+/// bytes that it may lend.
 pub const MOST_GIVEN: u64 = 4096;
 
 /// Words of a point: x, y, z, lon, lat.
@@ -56,6 +57,15 @@ pub const RULES: [&str; 6] = [
 /// The first of the two rules that read the control point.
 pub const CONTROL_POINT_IN: u64 = 4;
 
+/// What a region file's trailer begins with.
+pub const EDITION: u32 = 1;
+
+/// Bytes of a region file's trailer: edition, flag, count and distance.
+pub const TRAILER_BYTES: usize = 16;
+
+/// What a C door adds to a refusal's number.
+pub const DOOR_REFUSES: u64 = 16;
+
 /// How every NaN is written in an answer.
 const ANSWERED_NAN: u64 = 0x7FF8_0000_0000_0000;
 
@@ -68,6 +78,7 @@ pub mod status {
     pub const NO_SUCH_INDEX: u64 = 4;
     pub const NO_PARALLEL: u64 = 5;
     pub const NOT_FINITE: u64 = 6;
+    pub const WRONG_TRAILER: u64 = 7;
     pub const TOO_SHORT: u64 = 8;
     pub const ZONE_BOUNDS: u64 = 9;
 
@@ -120,6 +131,10 @@ pub enum Call {
     ParallelFirst = 15,
     ParallelAll = 16,
     IsIntersectingParallel = 17,
+    WriteFile = 18,
+    ReadFile = 19,
+    DoorContains = 20,
+    DoorHold = 21,
     Root = 22,
     ZoneNew = 23,
     ZoneRest = 24,
@@ -147,8 +162,10 @@ pub enum Part {
     Flag(&'static str),
     /// A rule's number.
     Rule(&'static str),
-    /// Any number: a corner's place.
-    Index(&'static str),
+    /// Any number: a corner's place, a length.
+    Number(&'static str),
+    /// What a C door returned.
+    Returned(&'static str),
     /// How many entries the lists after it have.
     Count(&'static str),
     /// The same, but 0 or 1.
@@ -157,6 +174,12 @@ pub enum Part {
     InUse(&'static str),
     Points(&'static str, Entries),
     Vectors(&'static str, Entries),
+    /// How many bytes the request lends.
+    Lent(&'static str),
+    /// The bytes lent: a region file, which stands at their end.
+    File(&'static str),
+    /// The bytes lent, with a region file at their front.
+    Output(&'static str),
 }
 
 /// How many entries a list has.
@@ -183,6 +206,8 @@ pub enum Outcome {
     Status,
     /// No status, a double at once.
     Double,
+    /// No status, what a C door returned at once.
+    Door,
 }
 
 pub struct Kind {
@@ -194,7 +219,7 @@ pub struct Kind {
     pub answer: &'static [Part],
 }
 
-const PLACE: &[Part] = &[Part::Index("i"), Part::Points("point", Entries::One)];
+const PLACE: &[Part] = &[Part::Number("i"), Part::Points("point", Entries::One)];
 
 const POINT: &[Part] = &[Part::Points("point", Entries::One)];
 
@@ -220,6 +245,12 @@ const ALL: &[Part] = &[
 ];
 
 const IS_INTERSECTING: &[Part] = &[Part::YesNo("is intersecting")];
+
+const DOOR: &[Part] = &[
+    Part::Lent("L"),
+    Part::File("file"),
+    Part::Points("point", Entries::One),
+];
 
 pub const KINDS: &[Kind] = &[
     Kind {
@@ -251,7 +282,7 @@ pub const KINDS: &[Kind] = &[
     Kind {
         call: Call::Remove,
         name: "remove",
-        request: &[Part::Index("i")],
+        request: &[Part::Number("i")],
         outcome: Outcome::Status,
         answer: &[],
     },
@@ -355,6 +386,34 @@ pub const KINDS: &[Kind] = &[
         answer: IS_INTERSECTING,
     },
     Kind {
+        call: Call::WriteFile,
+        name: "write the region file",
+        request: &[Part::Lent("m")],
+        outcome: Outcome::Status,
+        answer: &[Part::Number("length returned"), Part::Output("output")],
+    },
+    Kind {
+        call: Call::ReadFile,
+        name: "read a region file",
+        request: &[Part::Lent("L"), Part::File("file")],
+        outcome: Outcome::Status,
+        answer: &[],
+    },
+    Kind {
+        call: Call::DoorContains,
+        name: "C door, contains",
+        request: DOOR,
+        outcome: Outcome::Door,
+        answer: &[Part::Returned("returned")],
+    },
+    Kind {
+        call: Call::DoorHold,
+        name: "C door, hold",
+        request: DOOR,
+        outcome: Outcome::Door,
+        answer: &[Part::Returned("returned"), Part::File("file")],
+    },
+    Kind {
         call: Call::Root,
         name: "root",
         request: &[Part::Double("x")],
@@ -425,6 +484,50 @@ pub const KINDS: &[Kind] = &[
 #[inline]
 fn row_of(number: u64) -> Option<usize> {
     KINDS.iter().position(|kind| kind.call as u64 == number)
+}
+
+// Bytes and the region file
+
+/// The words that hold bytes in order, the last one filled up with zero bytes.
+pub fn words_of(bytes: &[u8]) -> Vec<u64> {
+    bytes
+        .chunks(WORD)
+        .map(|chunk| {
+            let mut word = [0; WORD];
+            word[..chunk.len()].copy_from_slice(chunk);
+            u64::from_le_bytes(word)
+        })
+        .collect()
+}
+
+fn bytes_of(words: &[u64]) -> Vec<u8> {
+    words.iter().flat_map(|word| word.to_le_bytes()).collect()
+}
+
+/// The bytes that a request begins with, and its words after them.
+pub fn bytes_and_rest(request: &[u64]) -> (Vec<u8>, &[u64]) {
+    let length = request[0] as usize;
+    let (words, rest) = request[1..].split_at(length.div_ceil(WORD));
+    let mut bytes = bytes_of(words);
+    bytes.truncate(length);
+    (bytes, rest)
+}
+
+/// How long a region file of that many corners is.
+pub fn file_length(count: usize) -> usize {
+    count * POINT_WORDS * WORD + TRAILER_BYTES
+}
+
+/// Edition, flag, count and distance; none where a file is too short for them.
+pub fn trailer(file: &[u8]) -> Option<[u32; 4]> {
+    let trailer = u128::from_le_bytes(*file.last_chunk::<TRAILER_BYTES>()?);
+    Some([0, 32, 64, 96].map(|shift| (trailer >> shift) as u32))
+}
+
+/// The words of the corners that stand before a file's trailer; there must be that many.
+pub fn corner_words(file: &[u8], count: usize) -> Vec<u64> {
+    let first = file.len() - file_length(count);
+    words_of(&file[first..file.len() - TRAILER_BYTES])
 }
 
 /// Reads a stream word by word.
@@ -508,7 +611,7 @@ pub fn read_request<R: Read>(words: &mut Words<R>, request: &mut Vec<u64>) -> io
     let Some(row) = row_of(number) else {
         return Ok(Next::Broken(format!("{number} is no request")));
     };
-    Ok(match read_parts(words, KINDS[row].request, request)? {
+    Ok(match read_parts(words, KINDS[row].request, 0, request)? {
         Taken::Whole => Next::Request(row),
         Taken::Cut => Next::Broken(format!("the stream ends inside a request {number}")),
         Taken::Unknown(name, word) => {
@@ -517,11 +620,12 @@ pub fn read_request<R: Read>(words: &mut Words<R>, request: &mut Vec<u64>) -> io
     })
 }
 
-/// Reads the answer to a request of this kind, its status included; false where the stream ends
+/// Reads the answer to this request of this kind, its status included; false where the stream ends
 /// before it is whole, or where it is none.
 pub fn read_answer<R: Read>(
     words: &mut Words<R>,
     kind: &Kind,
+    request: &[u64],
     answer: &mut Vec<u64>,
 ) -> io::Result<bool> {
     answer.clear();
@@ -535,9 +639,17 @@ pub fn read_answer<R: Read>(
         }
     }
     Ok(matches!(
-        read_parts(words, kind.answer, answer)?,
+        read_parts(words, kind.answer, lent(kind, request), answer)?,
         Taken::Whole
     ))
+}
+
+/// How many bytes a request lends.
+fn lent(kind: &Kind, request: &[u64]) -> usize {
+    match kind.request.first() {
+        Some(Part::Lent(_)) => request[0] as usize,
+        _ => 0,
+    }
 }
 
 enum Taken {
@@ -550,6 +662,7 @@ enum Taken {
 fn read_parts<R: Read>(
     words: &mut Words<R>,
     parts: &[Part],
+    mut lent: usize,
     into: &mut Vec<u64>,
 ) -> io::Result<Taken> {
     let mut count = 0;
@@ -557,13 +670,14 @@ fn read_parts<R: Read>(
         let needed = match part {
             Part::Points(_, entries) => POINT_WORDS * entries.number(count),
             Part::Vectors(_, entries) => VECTOR_WORDS * entries.number(count),
+            Part::File(_) | Part::Output(_) => lent.div_ceil(WORD),
             _ => 1,
         };
         if !take(words, needed, into)? {
             return Ok(Taken::Cut);
         }
         let (name, greatest) = match part {
-            Part::Count(name) => (name, MOST_GIVEN),
+            Part::Count(name) | Part::Lent(name) => (name, MOST_GIVEN),
             Part::Found(name) => (name, 1),
             Part::Rule(name) => (name, RULES.len() as u64 - 1),
             _ => continue,
@@ -572,8 +686,10 @@ fn read_parts<R: Read>(
         if word > greatest {
             return Ok(Taken::Unknown(name, word));
         }
-        if !matches!(part, Part::Rule(_)) {
-            count = word as usize;
+        match part {
+            Part::Rule(_) => {}
+            Part::Lent(_) => lent = word as usize,
+            _ => count = word as usize,
         }
     }
     Ok(Taken::Whole)
@@ -607,20 +723,21 @@ pub fn answered(value: f64) -> u64 {
 
 /// A request's words after its number, for a reader.
 pub fn describe_request(kind: &Kind, request: &[u64]) -> Vec<String> {
-    describe(kind.request, request)
+    describe(kind.request, 0, request)
 }
 
-/// An answer's words, for a reader.
-pub fn describe_answer(kind: &Kind, answer: &[u64]) -> Vec<String> {
+/// The words of the answer to this request, for a reader.
+pub fn describe_answer(kind: &Kind, request: &[u64], answer: &[u64]) -> Vec<String> {
+    let lent = lent(kind, request);
     if kind.outcome != Outcome::Status {
-        return describe(kind.answer, answer);
+        return describe(kind.answer, lent, answer);
     }
     let Some((&status, rest)) = answer.split_first() else {
         return Vec::new();
     };
     let mut lines = vec![format!("status = {status}")];
     if status == status::DONE {
-        lines.extend(describe(kind.answer, rest));
+        lines.extend(describe(kind.answer, lent, rest));
     } else {
         lines.extend(rest.iter().map(|word| format!("then {word}")));
     }
@@ -628,7 +745,7 @@ pub fn describe_answer(kind: &Kind, answer: &[u64]) -> Vec<String> {
 }
 
 /// One line for each word or entry, as far as there are words.
-fn describe(parts: &[Part], words: &[u64]) -> Vec<String> {
+fn describe(parts: &[Part], mut lent: usize, words: &[u64]) -> Vec<String> {
     let mut lines = Vec::new();
     let mut words = words;
     let mut count = 0;
@@ -636,14 +753,30 @@ fn describe(parts: &[Part], words: &[u64]) -> Vec<String> {
         let (name, size, entries) = match part {
             Part::Points(name, entries) => (name, POINT_WORDS, entries),
             Part::Vectors(name, entries) => (name, VECTOR_WORDS, entries),
+            Part::File(name) | Part::Output(name) => {
+                let (held, rest) = words.split_at(lent.div_ceil(WORD).min(words.len()));
+                words = rest;
+                let held = bytes_of(held);
+                let (bytes, filling) = held.split_at(lent.min(held.len()));
+                lines.extend(match part {
+                    Part::File(_) => describe_file(name, bytes),
+                    _ => describe_bytes(name, 0, bytes),
+                });
+                if filling.iter().any(|&byte| byte != 0) {
+                    lines.extend(describe_bytes(&format!("{name}'s filling"), lent, filling));
+                }
+                continue;
+            }
             Part::Double(name)
             | Part::YesNo(name)
             | Part::Flag(name)
             | Part::Rule(name)
-            | Part::Index(name)
+            | Part::Number(name)
+            | Part::Returned(name)
             | Part::Count(name)
             | Part::Found(name)
-            | Part::InUse(name) => {
+            | Part::InUse(name)
+            | Part::Lent(name) => {
                 let Some((&word, rest)) = words.split_first() else {
                     break;
                 };
@@ -652,8 +785,10 @@ fn describe(parts: &[Part], words: &[u64]) -> Vec<String> {
                     Part::Double(_) => describe_double(name, word),
                     _ => format!("{name} = {word}"),
                 });
-                if matches!(part, Part::Count(_) | Part::Found(_) | Part::InUse(_)) {
-                    count = word as usize;
+                match part {
+                    Part::Count(_) | Part::Found(_) | Part::InUse(_) => count = word as usize,
+                    Part::Lent(_) => lent = word as usize,
+                    _ => {}
                 }
                 continue;
             }
@@ -666,12 +801,7 @@ fn describe(parts: &[Part], words: &[u64]) -> Vec<String> {
             Entries::Counted | Entries::Most => there.min(count).min(MOST_POINTS as usize),
         };
         for (index, entry) in list.chunks_exact(size).take(shown).enumerate() {
-            let fields: Vec<String> = FIELDS
-                .iter()
-                .zip(entry)
-                .map(|(field, &word)| describe_double(field, word))
-                .collect();
-            let fields = fields.join(", ");
+            let fields = describe_fields(entry);
             lines.push(match entries {
                 Entries::One => format!("{name}: {fields}"),
                 Entries::Counted | Entries::Most => format!("{name} {index}: {fields}"),
@@ -682,6 +812,48 @@ fn describe(parts: &[Part], words: &[u64]) -> Vec<String> {
         }
     }
     lines
+}
+
+/// A point's or a vector's fields.
+fn describe_fields(words: &[u64]) -> String {
+    let fields: Vec<String> = FIELDS
+        .iter()
+        .zip(words)
+        .map(|(field, &word)| describe_double(field, word))
+        .collect();
+    fields.join(", ")
+}
+
+/// A file as its end says: what may be corners, by the byte that each begins at, and the trailer.
+fn describe_file(name: &str, file: &[u8]) -> Vec<String> {
+    let Some([edition, flag, count, distance]) = trailer(file) else {
+        return describe_bytes(name, 0, file);
+    };
+    let before = file.len() - TRAILER_BYTES;
+    let front = before % (POINT_WORDS * WORD);
+    let corners = words_of(&file[front..before]);
+    let mut lines = describe_bytes(name, 0, &file[..front]);
+    for (index, corner) in corners.chunks_exact(POINT_WORDS).enumerate() {
+        let at = front + index * POINT_WORDS * WORD;
+        lines.push(format!("{name} at {at}: {}", describe_fields(corner)));
+    }
+    lines.push(format!(
+        "{name} at {before}: edition {edition}, flag {flag}, count {count}, distance {distance}"
+    ));
+    lines
+}
+
+/// As many bytes in a line as a corner has, the first one counted as this.
+fn describe_bytes(name: &str, first: usize, bytes: &[u8]) -> Vec<String> {
+    bytes
+        .chunks(POINT_WORDS * WORD)
+        .enumerate()
+        .map(|(index, line)| {
+            let at = first + index * POINT_WORDS * WORD;
+            let digits: String = line.iter().map(|byte| format!(" {byte:02X}")).collect();
+            format!("{name} at {at}:{digits}")
+        })
+        .collect()
 }
 
 fn describe_double(name: &str, word: u64) -> String {
