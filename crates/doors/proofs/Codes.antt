@@ -1,6 +1,6 @@
 -- What the doors answer, by the outcomes of the calls they make.
 use Prim.Native.Nat.{ℕ}
-use mathlib.Core.Path.{_≡_, refl, sym, ap, subst, _∙_}
+use mathlib.Core.Path.{_≡_, sym, _∙_}
 use mathlib.Core.Bool.{Bool}
 use mathlib.Core.List.{List}
 use Rattle.coo3d.specs.declared.Coo3D.{Coo3D}

@@ -1,31 +1,28 @@
 -- A record's corners are checked, and are 1 to 64: so they are after a build, every edit keeps it so, and then the build afresh answers.
 use Prim.Native.Nat.{ℕ, zero, suc, _≤_, _<_}
 use native.Mathlib.Omega.{arith}
-use mathlib.Core.Path.{_≡_, refl, ap, subst, _∙_}
-use mathlib.Core.Bool.{Bool, true, false, not}
-use mathlib.Core.List.{List, [], _∷_}
-use lib.ListN.{length, take, set, length-set}
+use mathlib.Core.Path.{_≡_, refl, ap, _∙_}
+use mathlib.Core.Bool.{Bool, true, false}
+use mathlib.Core.List.{List}
+use lib.ListN.{length, set, length-set}
 use lib.Seq.{take-length}
 use Rattle.coo3d.specs.declared.Coo3D.{Coo3D}
 use Rattle.domain.specs.Domain.{inDomain}
-use Rattle.domain.specs.Checks.{pointAt, pointsFrom, pointsOf}
-use Rattle.domain.proofs.Counts.{count-answered, count-passed, count-few}
+use Rattle.domain.specs.Checks.{pointsFrom, pointsOf}
+use Rattle.domain.proofs.Inside.{Inside, none, more, from-in, points-answered}
+use Rattle.domain.proofs.Counts.{count-answered, count-few}
 use Rattle.lists.specs.Cyclic.{ins, del}
 use Rattle.lists.proofs.Cyclic.{length-ins, length-del}
-use Rattle.refusal.specs.Answer.{Answer, answered, refused, refuseIf, andThen}
+use Rattle.refusal.specs.Answer.{Answer, answered, refused, andThen}
 use Rattle.refusal.proofs.Answers.{never}
 use Rattle.region.specs.declared.ContainsSouthPoleMethod.{ContainsSouthPoleMethod}
 use Rattle.region.specs.View.{View, made}
 use Rattle.region.specs.Region.{flagOf, buildOf}
-use Rattle.region.proofs.Flags.{flag-set, flag-clear}
+use Rattle.region.proofs.Flags.{flag-fixed}
 use Rattle.edits.specs.Edits.{Edit}
-use Rattle.edits.specs.Record.{Plain, regionOf, edited, fixedRule, afresh}
+use Rattle.edits.specs.Record.{Plain, regionOf, edited, afresh}
 use Rattle.edits.specs.Theorem.{startOf}
 use Rattle.edits.proofs.Legal.{Legal, legal-put, legal-insert, legal-remove, legal-turn, legal-hold, legal-rule}
-
-pub data Inside : List Coo3D → Type 0 where
-  none : Inside []
-  more : {c : Coo3D} {cs : List Coo3D} → inDomain c ≡ true → Inside cs → Inside (c ∷ cs)
 
 pub record Good (cs : List Coo3D) : Type 0 where
   pub inside : Inside cs
@@ -34,48 +31,20 @@ pub record Good (cs : List Coo3D) : Type 0 where
 
 -- ---- afresh
 
-point-in : (i : ℕ) (c : Coo3D) → inDomain c ≡ true → pointAt i c ≡ answered c
-unfolding pointAt
-point-in i c h = rw h
-
-from-in : (i : ℕ) {cs : List Coo3D} → Inside cs → pointsFrom i cs ≡ answered cs
-unfolding pointsFrom
-from-in i none = refl
-from-in i (more {c = c} h t) = rw (point-in i c h, from-in (suc i) t)
-
-fixed : (b : Bool) (v : View) → 0 < v .count → v .count ≤ 64 → flagOf v (fixedRule b) ≡ answered b
-fixed true v h k = flag-set v (λ (z : v .count ≡ 0). omega arith) k
-fixed false v h k = flag-clear v (λ (z : v .count ≡ 0). omega arith) k
-
 points-good : (cs : List Coo3D) → Good cs → pointsOf cs (length cs) ≡ answered cs
 unfolding pointsOf
 points-good cs g =
     let s : 0 < length cs = g .some in
     count-few (length cs) _ (λ (z : length cs ≡ 0). omega arith) (g .few) ∙ ap (pointsFrom 0) (take-length cs) ∙ from-in 0 (g .inside)
 
+none-left : {n : ℕ} → n ≡ 0 → 0 < n → ⊥
+none-left z h = omega (arith, z, h)
+
 pub fresh-good : (s : Plain) → Good (s .corners) → afresh s ≡ answered (regionOf s)
 unfolding buildOf
-fresh-good s g = rw (points-good (s .corners) g, fixed (s .flag) (made (s .corners) false) (g .some) (g .few))
+fresh-good s g = rw (points-good (s .corners) g, flag-fixed (made (s .corners) false) (s .flag) (λ (z : length (s .corners) ≡ 0). none-left z (g .some)) (g .few))
 
 -- ---- from a build
-
-then-cons : (c : Coo3D) (x : Answer (List Coo3D)) (qs : List Coo3D) → inDomain c ≡ true → ((rs : List Coo3D) → x ≡ answered rs → Inside rs) → andThen x (λ rs. answered (c ∷ rs)) ≡ answered qs → Inside qs
-then-cons c (answered rs) qs h f e = let z : c ∷ rs ≡ qs = cc e in subst Inside z (more h (f rs refl))
-then-cons c (refused n vs) qs h f e = never e
-
-then-point : (b : Bool) (i : ℕ) (c : Coo3D) (x : Answer (List Coo3D)) (qs : List Coo3D) → inDomain c ≡ b → ((rs : List Coo3D) → x ≡ answered rs → Inside rs)
-    → andThen (refuseIf (not b) 1 (i ∷ []) (answered c)) (λ q. andThen x (λ rs. answered (q ∷ rs))) ≡ answered qs → Inside qs
-then-point true i c x qs h f e = then-cons c x qs h f e
-then-point false i c x qs h f e = never e
-
-inside-from : (ps : List Coo3D) (i : ℕ) (qs : List Coo3D) → pointsFrom i ps ≡ answered qs → Inside qs
-unfolding pointsFrom pointAt
-inside-from [] i qs e = let z : [] ≡ qs = cc e in subst Inside z none
-inside-from (c ∷ ps) i qs e = then-point (inDomain c) i c (pointsFrom (suc i) ps) qs refl (inside-from ps (suc i)) e
-
-inside-of : (ps : List Coo3D) (n : ℕ) (qs : List Coo3D) → pointsOf ps n ≡ answered qs → Inside qs
-unfolding pointsOf
-inside-of ps n qs e = inside-from (take n ps) 0 qs (count-passed n _ qs e)
 
 flag-count : (v : View) (m : ContainsSouthPoleMethod) (b : Bool) → flagOf v m ≡ answered b → (0 < v .count) × (v .count ≤ 64)
 unfolding flagOf
@@ -96,7 +65,7 @@ module _ (points : List Coo3D) (count : ℕ) (m : ContainsSouthPoleMethod) (v : 
       record {
         plain = record { corners = cs; flag = b };
         starts = rw (p, q);
-        good = record { inside = inside-of points count cs p; some = c .0; few = c .1 };
+        good = record { inside = (points-answered points count cs p) .1; some = c .0; few = c .1 };
         view = cc e;
       }
   with-flag cs (refused n vs) p q e = never e

@@ -1,17 +1,15 @@
 -- The plain record: a list of corners and a flag, fed the arguments of the build and the edits, and nothing of the region's own.
-use Prim.Native.Nat.{ℕ, _+_}
+use Prim.Native.Nat.{ℕ}
 use mathlib.Core.Bool.{Bool, true, false, not, cond}
-use mathlib.Core.List.{List, [], _∷_, _++_}
+use mathlib.Core.List.{List, [], _∷_}
 use lib.Dec.{eqb}
 use lib.ListN.{length, getD, set}
 use Rattle.coo3d.specs.declared.Coo3D.{Coo3D}
 use Rattle.lists.specs.Cyclic.{ins, del, nextOf, beforeOf}
-use Rattle.refusal.specs.Answer.{Answer, answered, refused, andThen}
-use Rattle.region.specs.declared.ContainsSouthPoleMethod.{ContainsSouthPoleMethod}
-use Rattle.region.specs.declared.ContainsSouthPoleMethod.the-variants.{ContainsSouthPole, DoNotContainsSouthPole}
+use Rattle.refusal.specs.Answer.{Answer, answered, refused}
 use Rattle.region.specs.Edges.{Edge, normalOf}
 use Rattle.region.specs.View.{View, made, nowhere, contained}
-use Rattle.region.specs.Poles.{ruleFlag}
+use Rattle.region.specs.Poles.{ruleFlag, fixedRule}
 use Rattle.region.specs.Region.{buildOf}
 use Rattle.edits.specs.Edits.{Edit, put, insert, remove, turn, hold, rule, checked}
 
@@ -92,10 +90,6 @@ broughtIn (hold p) cs = []
 broughtIn (rule m) cs = []
 
 -- ---- afresh: built, by the build's definition, from the record's list by ContainsSouthPole or DoNotContainsSouthPole, as the flag says
-
-abbrev pub fixedRule : Bool → ContainsSouthPoleMethod
-fixedRule true = ContainsSouthPole
-fixedRule false = DoNotContainsSouthPole
 
 abbrev pub afresh : Plain → Answer View
 afresh s = buildOf (s .corners) (length (s .corners)) (fixedRule (s .flag))

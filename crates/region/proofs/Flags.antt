@@ -1,6 +1,6 @@
 -- What `flagOf` is for each rule, where the count is 1 to 64.
-use Prim.Native.Nat.{ℕ, _≤_}
-use mathlib.Core.Path.{_≡_, refl, sym, ap, _∙_}
+use Prim.Native.Nat.{_≤_}
+use mathlib.Core.Path.{_≡_, refl, ap, _∙_}
 use mathlib.Core.Bool.{Bool, true, false, not}
 use Rattle.coo3d.specs.declared.Coo3D.{Coo3D}
 use Rattle.domain.specs.Checks.{pointAt}
@@ -9,7 +9,7 @@ use Rattle.refusal.specs.Answer.{answered}
 use Rattle.refusal.proofs.Answers.{then-assoc, then-same}
 use Rattle.region.specs.declared.ContainsSouthPoleMethod.the-variants.{Default, DefaultComplement, ContainsSouthPole, DoNotContainsSouthPole, ControlPointIn, ControlPointOut}
 use Rattle.region.specs.View.{View, exactlyOne, oddAt}
-use Rattle.region.specs.Poles.{basicOf, ruleFlag}
+use Rattle.region.specs.Poles.{basicOf, ruleFlag, fixedRule}
 use Rattle.region.specs.Region.{ruleAt, controlAt, flagOf}
 
 one-true : (a : Bool) → not a ≡ exactlyOne a true
@@ -50,3 +50,7 @@ module _ (v : View) (some : v .count ≡ 0 → ⊥) (few : v .count ≤ 64) wher
       count-few (v .count) _ some few
       ∙ then-assoc (pointAt (v .count) p) (λ q. answered (ControlPointOut q)) (λ rule. answered (ruleFlag rule v))
       ∙ then-same (pointAt (v .count) p) (λ q. answered (oddAt q v)) (λ q. answered (exactlyOne (oddAt q v) false)) (λ q. ap answered (one-false (oddAt q v)))
+
+pub flag-fixed : (v : View) (b : Bool) → (v .count ≡ 0 → ⊥) → v .count ≤ 64 → flagOf v (fixedRule b) ≡ answered b
+flag-fixed v true some few = flag-set v some few
+flag-fixed v false some few = flag-clear v some few

@@ -31,3 +31,8 @@ ruleFlag ContainsSouthPole v = true
 ruleFlag DoNotContainsSouthPole v = false
 ruleFlag (ControlPointIn p) v = not (oddAt p v)
 ruleFlag (ControlPointOut p) v = oddAt p v
+
+-- the rule that sets the flag as it is
+abbrev pub fixedRule : Bool → ContainsSouthPoleMethod
+fixedRule true = ContainsSouthPole
+fixedRule false = DoNotContainsSouthPole

@@ -7,11 +7,12 @@ use lib.Seq.{take-all}
 use native.Mathlib.Nat.{le-of-eq}
 use Rattle.coo3d.specs.declared.Coo3D.{Coo3D}
 use Rattle.refusal.specs.Answer.{answered, refused}
+use Rattle.region.specs.Poles.{fixedRule}
 use Rattle.region.specs.Region.{buildOf}
 use Rattle.region.proofs.Builds.{build-first}
 use Rattle.region_file.specs.declared.Trailer.{Trailer}
 use Rattle.region_file.specs.Bytes.{cornersAt}
-use Rattle.region_file.specs.File.{fileLength, trailerOf, fixedRule, readOf}
+use Rattle.region_file.specs.File.{fileLength, trailerOf, readOf}
 
 pub length-corners : (s : List ℕ) (at n : ℕ) → length (cornersAt s at n) ≡ n
 unfolding cornersAt

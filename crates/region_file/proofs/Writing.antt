@@ -1,21 +1,20 @@
 -- Laws of the file's bytes, for the writer: lengths, and the corners stored one after the other.
-use Prim.Native.Nat.{ℕ, zero, suc, _+_, _-_, _*_, _≤_, _<_}
+use Prim.Native.Nat.{ℕ, _+_, _*_, _≤_, _<_}
 use native.Mathlib.Omega.{arith}
-use mathlib.Core.Path.{_≡_, refl, sym, ap, _∙_}
-use mathlib.Core.Bool.{Bool, cond}
+use mathlib.Core.Path.{_≡_, refl, sym, _∙_}
+use mathlib.Core.Bool.{Bool}
 use mathlib.Core.List.{List, [], _∷_, _++_}
-use borrow.Author.Tests.{eq-eqb, ne-eqb, le-ltb, lt-ltb}
-use lib.Ieee.{Float, binary64, toBits}
+use borrow.Author.Tests.{ne-eqb, le-ltb, lt-ltb}
 use lib.ListN.{length, take, drop, getD, length-append}
-use lib.Seq.{sets, sets-eq, length-take-le}
+use lib.Seq.{sets, sets-eq}
 use Rattle.coo3d.specs.declared.Coo3D.{Coo3D}
-use Rattle.domain.proofs.Counts.{count-none, count-many, count-few}
+use Rattle.domain.proofs.Counts.{count-none, count-many}
 use Rattle.lists.proofs.Passing.{next-left, none-left}
 use Rattle.refusal.specs.Answer.{answered, refused}
 use Rattle.region.specs.View.{View}
-use Rattle.region_file.specs.Bytes.{bytesOf, doubleBytes, cornerBytes, cornersBytes}
-use Rattle.region_file.specs.File.{fileLength, flagBytes, trailerBytes, fileOf, writeOf, outputOf}
-use Rattle.region_file.proofs.Numbers.{sets-then, length-bytes}
+use Rattle.region_file.specs.Bytes.{bytesOf, cornerBytes, cornersBytes}
+use Rattle.region_file.specs.File.{fileLength, trailerBytes, fileOf, writeOf, outputOf}
+use Rattle.region_file.proofs.Numbers.{sets-then}
 
 pub length-corner : (p : Coo3D) → length (cornerBytes p) ≡ 40
 unfolding cornerBytes bytesOf

@@ -1,15 +1,13 @@
 -- The region file, edition 1: document 01, 'Region file'. Corners of 40 bytes, then a trailer of four u32: edition, flag, corner count, and the
 -- distance from the file's end back to corner 0.
 use Prim.Native.Nat.{ℕ, _+_, _-_, _*_}
-use mathlib.Core.Bool.{Bool, true, false, not, cond}
+use mathlib.Core.Bool.{Bool, not, cond}
 use mathlib.Core.List.{List, [], _∷_, _++_}
 use lib.Dec.{eqb, ltb}
 use lib.ListN.{length, take, drop}
-use Rattle.coo3d.specs.declared.Coo3D.{Coo3D}
 use Rattle.domain.specs.Checks.{withCount}
 use Rattle.refusal.specs.Answer.{Answer, answered, refused, refusedFor, refuseIf, andThen}
-use Rattle.region.specs.declared.ContainsSouthPoleMethod.{ContainsSouthPoleMethod}
-use Rattle.region.specs.declared.ContainsSouthPoleMethod.the-variants.{ContainsSouthPole, DoNotContainsSouthPole}
+use Rattle.region.specs.Poles.{fixedRule}
 use Rattle.region.specs.View.{View}
 use Rattle.region.specs.Region.{buildOf}
 use Rattle.region_file.specs.Bytes.{numberAt, bytesOf, cornersAt, cornersBytes}
@@ -38,11 +36,6 @@ trailerOf s =
     (refuseIf (not (eqb (numberAt 4 s (at + 12)) (fileLength n))) 7 []
     (refuseIf (ltb (length s) (fileLength n)) 7 []
     (answered (record { flag = eqb (numberAt 4 s (at + 4)) 1; count = n })))))))
-
--- the rule that sets the flag as it is
-abbrev pub fixedRule : Bool → ContainsSouthPoleMethod
-fixedRule true = ContainsSouthPole
-fixedRule false = DoNotContainsSouthPole
 
 -- what every reader of edition 1 answers: the trailer, then the region built of the corners, the lowest bad one refused as 1
 unfoldable pub readOf : List ℕ → Answer View

@@ -6,9 +6,6 @@ use Rattle.doors.specs.Doors.{codeOf, inOrOut}
 use borrow.Author.Needs.{needs}
 use Rattle.doors.proofs.decision_code.Statement.{statement}
 use Rattle.doors.proofs.decision_code.Tie as tie
-use Rattle.doors.proofs.decision_code.Reads as reads
-use Rattle.doors.proofs.decision_code.Lts as lts
-use Rattle.doors.proofs.refusal_code.Reads as refusal-code-reads
 
 enum-told : tie.Need-enum-told
 enum-told c = search needs

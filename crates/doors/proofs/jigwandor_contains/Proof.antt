@@ -4,12 +4,6 @@ use Rattle.doors.proofs.Codes.{contains-unread, contains-done}
 use borrow.Author.Needs.{needs}
 use Rattle.doors.proofs.jigwandor_contains.Statement.{statement}
 use Rattle.doors.proofs.jigwandor_contains.Tie as tie
-use Rattle.doors.proofs.jigwandor_contains.Reads as reads
-use Rattle.doors.proofs.jigwandor_contains.Lts as lts
-use Rattle.doors.proofs.decision_code.Reads as decision-code-reads
-use Rattle.doors.proofs.outcome_code.Reads as outcome-code-reads
-use Rattle.region.proofs.contains.Reads as contains-reads
-use Rattle.region_file.proofs.read.Reads as read-reads
 
 read-requires : tie.Need-read-requires
 read-requires c κs = search needs

@@ -4,12 +4,6 @@ use Rattle.doors.proofs.Codes.{hold-unread, hold-refused, hold-done}
 use borrow.Author.Needs.{needs}
 use Rattle.doors.proofs.jigwandor_hold.Statement.{statement}
 use Rattle.doors.proofs.jigwandor_hold.Tie as tie
-use Rattle.doors.proofs.jigwandor_hold.Reads as reads
-use Rattle.doors.proofs.jigwandor_hold.Lts as lts
-use Rattle.doors.proofs.outcome_code.Reads as outcome-code-reads
-use Rattle.edits.proofs.hold.Reads as hold-reads
-use Rattle.region_file.proofs.read.Reads as read-reads
-use Rattle.region_file.proofs.set_flag.Reads as set-flag-reads
 
 read-requires : tie.Need-read-requires
 read-requires c κs = search needs

@@ -4,9 +4,6 @@ use Rattle.doors.specs.Doors.{outcomeCode}
 use borrow.Author.Needs.{needs}
 use Rattle.doors.proofs.outcome_code.Statement.{statement}
 use Rattle.doors.proofs.outcome_code.Tie as tie
-use Rattle.doors.proofs.outcome_code.Reads as reads
-use Rattle.doors.proofs.outcome_code.Lts as lts
-use Rattle.doors.proofs.refusal_code.Reads as refusal-code-reads
 
 enum-told : tie.Need-enum-told
 enum-told c = search needs

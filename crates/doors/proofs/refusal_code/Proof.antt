@@ -4,9 +4,6 @@ use Rattle.refusal.proofs.Table.{number-small}
 use borrow.Author.Needs.{needs}
 use Rattle.doors.proofs.refusal_code.Statement.{statement}
 use Rattle.doors.proofs.refusal_code.Tie as tie
-use Rattle.doors.proofs.refusal_code.Reads as reads
-use Rattle.doors.proofs.refusal_code.Lts as lts
-use Rattle.refusal.proofs.number.Reads as number-reads
 
 number-requires : tie.Need-number-requires
 number-requires c κs = search needs

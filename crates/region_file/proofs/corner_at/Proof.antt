@@ -3,9 +3,6 @@ use Rattle.region_file.specs.Bytes.{cornerAt}
 use borrow.Author.Needs.{needs}
 use Rattle.region_file.proofs.corner_at.Statement.{statement}
 use Rattle.region_file.proofs.corner_at.Tie as tie
-use Rattle.region_file.proofs.corner_at.Reads as reads
-use Rattle.region_file.proofs.corner_at.Lts as lts
-use Rattle.region_file.proofs.double_at.Reads as double-at-reads
 
 double-at-requires : tie.Need-double-at-requires
 double-at-requires c κs = search needs

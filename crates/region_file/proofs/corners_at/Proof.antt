@@ -1,7 +1,7 @@
 -- `region_file::corners_at` meets its contract. Assumes nothing.
 use Prim.Native.Nat.{ℕ, suc, _+_, _-_, _*_, _≤_, _<_}
 use native.Mathlib.Omega.{arith}
-use mathlib.Core.Path.{_≡_, refl, sym, ap, _∙_}
+use mathlib.Core.Path.{_≡_, refl, sym, _∙_}
 use mathlib.Core.List.{List, _++_, append-nil}
 use lib.ListN.{length, take, set}
 use Rattle.coo3d.specs.declared.Coo3D.{Coo3D}
@@ -10,9 +10,6 @@ use borrow.Author.Needs.{needs}
 use Rattle.region_file.specs.Bytes.{cornerAt, cornersAt}
 use Rattle.region_file.proofs.corners_at.Statement.{statement}
 use Rattle.region_file.proofs.corners_at.Tie as tie
-use Rattle.region_file.proofs.corners_at.Reads as reads
-use Rattle.region_file.proofs.corners_at.Lts as lts
-use Rattle.region_file.proofs.corner_at.Reads as corner-at-reads
 
 starts : (s : List ℕ) (at n : ℕ) → cornersAt s (at + 40 * 0) (n - 0) ≡ cornersAt s at n
 starts s at n = let d : n - 0 ≡ n = omega arith in let e : at + 40 * 0 ≡ at = omega arith in rw (d, e)

@@ -9,11 +9,6 @@ use Rattle.region_file.proofs.Numbers.{at-eight}
 use borrow.Author.Needs.{needs}
 use Rattle.region_file.proofs.double_at.Statement.{statement}
 use Rattle.region_file.proofs.double_at.Tie as tie
-use Rattle.region_file.proofs.double_at.Reads as reads
-use Rattle.region_file.proofs.double_at.Lts as lts
-use Rattle.float.proofs.from_bits.Reads as from-bits-reads
-use Rattle.region_file.proofs.join_halves.Reads as join-halves-reads
-use Rattle.region_file.proofs.u32_at.Reads as u32-at-reads
 
 eight : (s : List ℕ) (at n low high : ℕ) → at + 8 ≤ length s → n ≡ low + 4294967296 * high → low ≡ numberAt 4 s at → high ≡ numberAt 4 s (at + 4) → ofBits binary64 n ≡ ofBits binary64 (numberAt 8 s at)
 eight s at n low high h e p q = ap (ofBits binary64) (e ∙ rw (p, q) (sym (at-eight s at h)))

@@ -1,7 +1,7 @@
 -- `region_file::put_corner` meets its contract. Assumes nothing.
 use Prim.Native.Nat.{ℕ, _+_}
 use native.Mathlib.Omega.{arith}
-use mathlib.Core.Path.{_≡_, sym, _∙_}
+use mathlib.Core.Path.{_≡_, _∙_}
 use mathlib.Core.List.{List, _++_}
 use lib.Ieee.{Float, binary64, toBits}
 use lib.Seq.{sets}
@@ -10,10 +10,6 @@ use Rattle.region_file.proofs.Numbers.{run}
 use borrow.Author.Needs.{needs}
 use Rattle.region_file.proofs.put_corner.Statement.{statement}
 use Rattle.region_file.proofs.put_corner.Tie as tie
-use Rattle.region_file.proofs.put_corner.Reads as reads
-use Rattle.region_file.proofs.put_corner.Lts as lts
-use Rattle.float.proofs.to_bits.Reads as to-bits-reads
-use Rattle.region_file.proofs.put_number.Reads as put-number-reads
 
 five : (l₀ l₁ l₂ l₃ l₄ l₅ : List ℕ) (at a b c d e : ℕ) (x y z lon lat : Float) → a ≡ toBits binary64 x → b ≡ toBits binary64 y → c ≡ toBits binary64 z → d ≡ toBits binary64 lon → e ≡ toBits binary64 lat
     → l₁ ≡ sets l₀ at (bytesOf 8 a) → l₂ ≡ sets l₁ (at + 8) (bytesOf 8 b) → l₃ ≡ sets l₂ (at + 16) (bytesOf 8 c) → l₄ ≡ sets l₃ (at + 24) (bytesOf 8 d) → l₅ ≡ sets l₄ (at + 32) (bytesOf 8 e)

@@ -1,7 +1,7 @@
 -- `region_file::put_number` meets its contract. Assumes nothing.
 use Prim.Native.Nat.{ℕ, suc, _+_, _-_, _/_, _%_, _≤_, _<_}
 use native.Mathlib.Omega.{arith}
-use mathlib.Core.Path.{_≡_, refl, sym, ap, _∙_}
+use mathlib.Core.Path.{_≡_, refl, sym, _∙_}
 use mathlib.Core.List.{List}
 use lib.ListN.{length, set}
 use lib.Seq.{sets}
@@ -9,8 +9,6 @@ use borrow.Author.Needs.{needs}
 use Rattle.region_file.specs.Bytes.{bytesOf}
 use Rattle.region_file.proofs.put_number.Statement.{statement}
 use Rattle.region_file.proofs.put_number.Tie as tie
-use Rattle.region_file.proofs.put_number.Reads as reads
-use Rattle.region_file.proofs.put_number.Lts as lts
 
 starts : (s : List ℕ) (at width n : ℕ) → sets s (at + 0) (bytesOf (width - 0) n) ≡ sets s at (bytesOf width n)
 starts s at width n = let d : width - 0 ≡ width = omega arith in let e : at + 0 ≡ at = omega arith in rw (d, e)

@@ -11,9 +11,6 @@ use Rattle.region_file.proofs.Numbers.{run, flag-number}
 use borrow.Author.Needs.{needs}
 use Rattle.region_file.proofs.put_trailer.Statement.{statement}
 use Rattle.region_file.proofs.put_trailer.Tie as tie
-use Rattle.region_file.proofs.put_trailer.Reads as reads
-use Rattle.region_file.proofs.put_trailer.Lts as lts
-use Rattle.region_file.proofs.put_number.Reads as put-number-reads
 
 four : (l₀ l₁ l₂ l₃ l₄ : List ℕ) (at a b c d : ℕ) (flag : Bool) → b ≡ cond flag 1 0
     → l₁ ≡ sets l₀ at (bytesOf 4 a) → l₂ ≡ sets l₁ (at + 4) (bytesOf 4 b) → l₃ ≡ sets l₂ (at + 8) (bytesOf 4 c) → l₄ ≡ sets l₃ (at + 12) (bytesOf 4 d)

@@ -7,20 +7,15 @@ use mathlib.Core.List.{List}
 use lib.ListN.{length}
 use Rattle.coo3d.specs.declared.Coo3D.{Coo3D}
 use Rattle.refusal.specs.Answer.{answered}
+use Rattle.region.specs.Poles.{fixedRule}
 use Rattle.region.specs.Region.{buildOf}
 use Rattle.region_file.specs.declared.Trailer.{Trailer}
-use Rattle.region_file.specs.File.{fileLength, trailerOf, fixedRule, trailerAnswer}
+use Rattle.region_file.specs.File.{fileLength, trailerOf, trailerAnswer}
 use Rattle.region_file.proofs.Trailers.{Accepted, accepted}
 use Rattle.region_file.proofs.Reading.{read-refused, read-built}
 use borrow.Author.Needs.{needs}
 use Rattle.region_file.proofs.read.Statement.{statement}
 use Rattle.region_file.proofs.read.Tie as tie
-use Rattle.region_file.proofs.read.Reads as reads
-use Rattle.region_file.proofs.read.Lts as lts
-use Rattle.region.proofs.build.Reads as build-reads
-use Rattle.region.proofs.refused.Reads as refused-reads
-use Rattle.region_file.proofs.corners_at.Reads as corners-at-reads
-use Rattle.region_file.proofs.read_trailer.Reads as read-trailer-reads
 
 -- the corners lie in the file
 inside : (s : List ℕ) (t : Trailer) → Accepted s t → (t .count ≤ 64) × (length s - fileLength (t .count) + 40 * t .count ≤ length s)

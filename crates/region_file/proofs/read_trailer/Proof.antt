@@ -4,9 +4,6 @@ use Rattle.region_file.proofs.Trailers.{fields, short-file, other-editi
 use borrow.Author.Needs.{needs}
 use Rattle.region_file.proofs.read_trailer.Statement.{statement}
 use Rattle.region_file.proofs.read_trailer.Tie as tie
-use Rattle.region_file.proofs.read_trailer.Reads as reads
-use Rattle.region_file.proofs.read_trailer.Lts as lts
-use Rattle.region_file.proofs.u32_at.Reads as u32-at-reads
 
 returns : tie.Need-returns
 returns c = sym (short-file _ (c .if1 .taken))

@@ -14,9 +14,6 @@ use Rattle.region_file.proofs.Numbers.{length-bytes, flag-number}
 use borrow.Author.Needs.{needs}
 use Rattle.region_file.proofs.set_flag.Statement.{statement}
 use Rattle.region_file.proofs.set_flag.Tie as tie
-use Rattle.region_file.proofs.set_flag.Reads as reads
-use Rattle.region_file.proofs.set_flag.Lts as lts
-use Rattle.region_file.proofs.put_number.Reads as put-number-reads
 
 field-set : (s : List ℕ) (flag : Bool) → 16 ≤ length s → sets s (length s - 12) (bytesOf 4 (boolByte flag)) ≡ withFlagField s flag
 unfolding withFlagField

@@ -4,9 +4,6 @@ use Rattle.region_file.proofs.Numbers.{at-four}
 use borrow.Author.Needs.{needs}
 use Rattle.region_file.proofs.u32_at.Statement.{statement}
 use Rattle.region_file.proofs.u32_at.Tie as tie
-use Rattle.region_file.proofs.u32_at.Reads as reads
-use Rattle.region_file.proofs.u32_at.Lts as lts
-use Rattle.region_file.proofs.join.Reads as join-reads
 
 shared-slice-read-join : tie.Need-shared-slice-read-join
 shared-slice-read-join c = search needs

@@ -1,7 +1,7 @@
 -- `region_file::write` meets its contract. Assumes nothing.
-use Prim.Native.Nat.{ℕ, _+_, _-_, _*_, _≤_, _<_}
+use Prim.Native.Nat.{ℕ, _-_, _*_, _≤_}
 use native.Mathlib.Omega.{arith}
-use mathlib.Core.Path.{_≡_, refl, sym, ap, _∙_}
+use mathlib.Core.Path.{_≡_, refl, sym, _∙_}
 use mathlib.Core.List.{List}
 use lib.ListN.{length, take, drop}
 use lib.Seq.{sets, length-take-le}
@@ -12,10 +12,6 @@ use Rattle.region_file.specs.Bytes.{cornersBytes}
 use Rattle.region_file.proofs.Writing.{store-turn, store-done, write-none, write-many, write-short, write-done}
 use Rattle.region_file.proofs.write.Statement.{statement}
 use Rattle.region_file.proofs.write.Tie as tie
-use Rattle.region_file.proofs.write.Reads as reads
-use Rattle.region_file.proofs.write.Lts as lts
-use Rattle.region_file.proofs.put_corner.Reads as put-corner-reads
-use Rattle.region_file.proofs.put_trailer.Reads as put-trailer-reads
 
 long : (l : List Coo3D) (n : ℕ) → length l ≡ 64 → n ≤ 64 → n ≤ length l
 long l n e h = omega (arith, e, h)
