@@ -1,0 +1,232 @@
+// How the examples print: the call's name, then a line for each answer. Doubles are the 16 hexadecimal digits of their bits.
+use cone::ConeAnswer;
+use coo3d::LonLat;
+use coo3d::UnitVect3;
+use coo3d::Vect3;
+use crossings::AllAnswer;
+use crossings::Crossing;
+use crossings::FirstAnswer;
+use crossings::Tested;
+use domain::PointCheck;
+use domain::VectorCheck;
+use edits::EditAnswer;
+use libc::STDOUT_FILENO;
+use refusal::Cause;
+use refusal::Decision;
+use refusal::Outcome;
+use region::Built;
+use region::Region;
+use zone::ZoneAnswer;
+
+fn say(text: &[u8]) {
+    io::write_all(STDOUT_FILENO, text);
+}
+
+fn say_number(n: u64) {
+    io::print_decimal(STDOUT_FILENO, n);
+}
+
+fn say_double(x: f64) {
+    say(b" ");
+    io::print_hex(STDOUT_FILENO, float::to_bits(x), 16);
+}
+
+pub(crate) fn call(name: &[u8]) {
+    say(name);
+    say(b"\n");
+}
+
+fn word(text: &[u8]) {
+    say(b"  ");
+    call(text);
+}
+
+pub(crate) fn number(n: u64) {
+    say(b"  ");
+    say_number(n);
+    say(b"\n");
+}
+
+pub(crate) fn bits(n: u64) {
+    say(b"  ");
+    io::print_hex(STDOUT_FILENO, n, 16);
+    say(b"\n");
+}
+
+pub(crate) fn double(x: f64) {
+    say(b" ");
+    say_double(x);
+    say(b"\n");
+}
+
+pub(crate) fn lon_lat(p: LonLat) {
+    say(b" ");
+    say_double(p.lon);
+    say_double(p.lat);
+    say(b"\n");
+}
+
+pub(crate) fn vector(v: Vect3) {
+    say(b" ");
+    say_double(v.x);
+    say_double(v.y);
+    say_double(v.z);
+    say(b"\n");
+}
+
+pub(crate) fn unit(v: UnitVect3) {
+    vector(v.to_vect3());
+}
+
+pub(crate) fn yes_no(yes: bool) {
+    if yes {
+        word(b"yes");
+    } else {
+        word(b"no");
+    }
+}
+
+// The number, and what stands beside it.
+pub(crate) fn refused(cause: Cause) {
+    say(b"  refused ");
+    say_number(refusal::number(cause));
+    match cause {
+        Cause::OutsideDomain(index) => {
+            say(b", index ");
+            say_number(index as u64);
+        }
+        Cause::ShortOutput(needed) => {
+            say(b", length needed ");
+            say_number(needed as u64);
+        }
+        _ => {}
+    }
+    say(b"\n");
+}
+
+pub(crate) fn decision(answer: Decision) {
+    match answer {
+        Decision::Yes => yes_no(true),
+        Decision::No => yes_no(false),
+        Decision::Refused(cause) => refused(cause),
+    }
+}
+
+pub(crate) fn outcome(answer: Outcome) {
+    match answer {
+        Outcome::Done => word(b"done"),
+        Outcome::Refused(cause) => refused(cause),
+    }
+}
+
+// Of a region that was done, the corner count and the flag.
+fn region(r: Region, outcome: Outcome) {
+    match outcome {
+        Outcome::Done => {
+            say(b"  done, corners ");
+            say_number(r.count as u64);
+            if r.contains_south_pole {
+                say(b", flag set\n");
+            } else {
+                say(b", flag clear\n");
+            }
+        }
+        Outcome::Refused(cause) => refused(cause),
+    }
+}
+
+pub(crate) fn built(answer: Built) {
+    let r = answer.region;
+    let outcome = answer.outcome;
+    region(r, outcome);
+}
+
+pub(crate) fn edited(answer: EditAnswer) {
+    let r = answer.region;
+    let outcome = answer.outcome;
+    region(r, outcome);
+}
+
+pub(crate) fn first(answer: FirstAnswer) {
+    match answer {
+        FirstAnswer::At(p) => unit(p),
+        FirstAnswer::None => word(b"none"),
+        FirstAnswer::Refused(cause) => refused(cause),
+    }
+}
+
+fn say_points(points: [UnitVect3; 64], len: usize) {
+    let mut i: usize = 0;
+    while i < len {
+        if i >= 64 {
+            return;
+        }
+        let p = points[i];
+        unit(p);
+        i += 1;
+    }
+}
+
+// The outcome, the list's length, and a line for each of its points.
+pub(crate) fn all(answer: AllAnswer) {
+    let crossings = answer.crossings;
+    let points = crossings.points;
+    let len = crossings.len;
+    let ended = answer.outcome;
+    outcome(ended);
+    say(b"  length ");
+    say_number(len as u64);
+    say(b"\n");
+    say_points(points, len);
+}
+
+pub(crate) fn tested(answer: Tested) {
+    match answer {
+        Tested::Crossing(crossing) => match crossing {
+            Crossing::At(p) => unit(p),
+            Crossing::None => word(b"none"),
+        },
+        Tested::Refused(cause) => refused(cause),
+    }
+}
+
+// The bounds, and whether the zone runs over the meridian 0.
+pub(crate) fn zone(answer: ZoneAnswer) {
+    match answer {
+        ZoneAnswer::Made(zone) => {
+            double(zone.lon_min);
+            double(zone.lat_min);
+            double(zone.lon_max);
+            double(zone.lat_max);
+            yes_no(zone.cross_primary_meridian);
+        }
+        ZoneAnswer::Refused(cause) => refused(cause),
+    }
+}
+
+// The centre, and the largest squared chord.
+pub(crate) fn cone(answer: ConeAnswer) {
+    match answer {
+        ConeAnswer::Made(cone) => {
+            let center = cone.center;
+            unit(center);
+            double(cone.d2_max);
+        }
+        ConeAnswer::Refused(cause) => refused(cause),
+    }
+}
+
+// Of the point, x, y and z.
+pub(crate) fn point_check(answer: PointCheck) {
+    match answer {
+        PointCheck::Point(p) => vector(p.to_vect3()),
+        PointCheck::Refused(cause) => refused(cause),
+    }
+}
+
+pub(crate) fn vector_check(answer: VectorCheck) {
+    match answer {
+        VectorCheck::Vector(v) => vector(v),
+        VectorCheck::Refused(cause) => refused(cause),
+    }
+}
