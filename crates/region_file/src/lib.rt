@@ -110,16 +110,18 @@ pub fn read_trailer(file: &[u8]) -> TrailerAnswer
         return TrailerAnswer::Refused(Cause::WrongTrailer);
     }
     let count = u32_at(file, at + 8) as usize;
+    let distance = u32_at(file, at + 12) as usize;
+    let whole = 40 * count + 16;
     if count == 0 {
         return TrailerAnswer::Refused(Cause::NoPoint);
     }
     if count > 64 {
         return TrailerAnswer::Refused(Cause::TooManyPoints);
     }
-    if u32_at(file, at + 12) as usize != 40 * count + 16 {
+    if distance != whole {
         return TrailerAnswer::Refused(Cause::WrongTrailer);
     }
-    if len < 40 * count + 16 {
+    if len < whole {
         return TrailerAnswer::Refused(Cause::WrongTrailer);
     }
     TrailerAnswer::Trailer(Trailer {

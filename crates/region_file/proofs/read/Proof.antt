@@ -17,10 +17,6 @@ use borrow.Author.Needs.{needs}
 use Rattle.region_file.proofs.read.Statement.{statement}
 use Rattle.region_file.proofs.read.Tie as tie
 
--- the corners lie in the file
-inside : (s : List ℕ) (t : Trailer) → Accepted s t → (t .count ≤ 64) × (length s - fileLength (t .count) + 40 * t .count ≤ length s)
-inside s t a = (a .few, omega (arith, a .whole))
-
 by-flag : (l : List Coo3D) (n : ℕ) (f g : Bool) → f ≡ g → buildOf l n (fixedRule g) ≡ buildOf l n (fixedRule f)
 by-flag l n f g e = rw e
 
@@ -49,10 +45,10 @@ add-corners-at : tie.Need-add-corners-at
 add-corners-at c = let a = known c .few in omega (arith, a)
 
 sub-corners-at : tie.Need-sub-corners-at
-sub-corners-at c = known c .whole
+sub-corners-at c = let w = known c .whole in omega (arith, w)
 
 corners-at-requires : tie.Need-corners-at-requires
-corners-at-requires c κs = inside _ _ (known c)
+corners-at-requires c κs = let w = known c .whole in (known c .few, omega (arith, w))
 
 build-requires : tie.Need-build-requires
 build-requires c κs = search needs
