@@ -21,6 +21,7 @@ use stream::Stream;
 use zone::Zone;
 use zone::ZoneAnswer;
 
+mod files;
 mod stream;
 
 // What is kept from one request to the next.
@@ -604,6 +605,7 @@ fn answer_about_region(
         10 => answer_contains(s, input, out, r),
         11 | 12 | 13 => answer_arc(s, input, out, r, number),
         14 => answer_great_circle(s, input, out, r),
+        18 => files::answer_write(s, input, out, r),
         _ => answer_parallel(s, input, out, r, number),
     }
 }
@@ -612,10 +614,11 @@ fn answer_about_region(
 fn answer(s: State, number: u64, input: &mut [u8; 65536], out: &mut [u8; 65536]) -> Stream {
     let t = s.stream;
     match number {
-        9..=17 => {
+        9..=18 => {
             let r = s.region;
             answer_about_region(t, number, input, out, r)
         }
+        20 | 21 => files::answer_door(t, number, input, out),
         22 => answer_sqrt(t, input, out),
         24 => answer_zone(s, input, out),
         25 => answer_bounding_cone(t, input, out),
@@ -633,6 +636,7 @@ fn step(s: State, input: &mut [u8; 65536], out: &mut [u8; 65536]) -> State {
     match number {
         1 => answer_build(here, input, out),
         2..=8 => answer_edit(here, number, input, out),
+        19 => files::answer_read(here, input, out),
         23 => answer_zone_new(here, input, out),
         26 => answer_value(here, input, out),
         _ => {

@@ -21,6 +21,12 @@ pub struct Word {
     pub stream: Stream,
 }
 
+// A number of bytes.
+pub struct Length {
+    pub value: usize,
+    pub stream: Stream,
+}
+
 pub struct Double {
     pub value: f64,
     pub stream: Stream,
@@ -158,6 +164,44 @@ pub(crate) fn get(s: Stream, input: &mut [u8; 65536]) -> Word {
     }
     let t = refill(s, input);
     take(t, input)
+}
+
+// A number up to 4,096; a larger one ends the stream.
+pub(crate) fn get_length(s: Stream, input: &mut [u8; 65536]) -> Length
+    ensures { λ r. ⌜ r .value ≤ 4096 ⌝ }
+{
+    let w = get(s, input);
+    let stream = w.stream;
+    let value = w.value;
+    if value > 4096 {
+        let ended = end(stream);
+        return Length {
+            value: 0,
+            stream: ended,
+        };
+    }
+    Length {
+        value: value as usize,
+        stream,
+    }
+}
+
+// As many bytes as are lent, eight to a word.
+pub(crate) fn get_bytes(s: Stream, input: &mut [u8; 65536], bytes: &mut [u8]) -> Stream {
+    let mut stream = s;
+    let mut rest: u64 = 0;
+    let mut i: usize = 0;
+    while i < bytes.len() {
+        if i % 8 == 0 {
+            let w = get(stream, input);
+            rest = w.value;
+            stream = w.stream;
+        }
+        bytes[i] = (rest % 256) as u8;
+        rest = rest / 256;
+        i += 1;
+    }
+    stream
 }
 
 pub(crate) fn get_double(s: Stream, input: &mut [u8; 65536]) -> Double {
@@ -313,6 +357,39 @@ pub(crate) fn put(s: Stream, out: &mut [u8; 65536], w: u64) -> Stream {
     }
     let t = flush(s, out);
     put_in_room(t, out, w)
+}
+
+fn byte_or_zero(s: &[u8], at: usize) -> u8 {
+    if at < s.len() { s[at] } else { 0 }
+}
+
+// The word that begins at a byte, filled up with zero bytes.
+fn word_from(s: &[u8], at: usize) -> u64
+    requires { ⌜ at < length (now s) ⌝ }
+{
+    let low = join(
+        byte_or_zero(s, at),
+        byte_or_zero(s, at + 1),
+        byte_or_zero(s, at + 2),
+        byte_or_zero(s, at + 3),
+    );
+    let high = join(
+        byte_or_zero(s, at + 4),
+        byte_or_zero(s, at + 5),
+        byte_or_zero(s, at + 6),
+        byte_or_zero(s, at + 7),
+    );
+    low + 0x1_0000_0000 * high
+}
+
+pub(crate) fn put_bytes(s: Stream, out: &mut [u8; 65536], bytes: &[u8]) -> Stream {
+    let mut stream = s;
+    let mut i: usize = 0;
+    while i < bytes.len() {
+        stream = put(stream, out, word_from(bytes, i));
+        i += 8;
+    }
+    stream
 }
 
 pub(crate) fn put_double(s: Stream, out: &mut [u8; 65536], x: f64) -> Stream {
