@@ -6,24 +6,36 @@ SEED ?= 1
 COUNT ?= 200000
 LISTS ?= 10000
 
-.PHONY: help setup demo test differential lists fixed-list
+.PHONY: help setup setup-c demo lib test doors differential lists fixed-list
 
 help:
-	@echo 'make demo          runs the example: fixes against a region and a zone, crossings, edits, refusals'
-	@echo 'make test          the whole gate: proofs, must-fail edits, fixed list, comparison with upstream'
+	@echo 'make demo          runs the example: makes a region file and asks the C doors who is inside'
+	@echo 'make lib           build/libjigwandor.a and build/jigwandor.h, for C programs'
+	@echo 'make test          the whole gate: proofs, must-fail edits, fixed list, C tests, comparison with upstream'
+	@echo 'make doors         the C tests alone'
 	@echo 'make differential  SEED=n COUNT=n: compares that many requests with upstream'
 	@echo 'make lists         SEED=n LISTS=n: compares that many lists of 1 to 200 edits with upstream'
 	@echo 'make fixed-list    makes the fixed list of crates/replay anew from upstream'
 	@echo 'make setup         installs what is missing, by package name'
 
 # Nothing is fetched where all is at hand.
-setup:
+setup: setup-c
 	@tests/need rustc rustc
 
+setup-c:
+	@tests/need gcc gcc libc6-dev
+	@tests/need g++ g++
+
 demo:
-	@mkdir -p build
-	@rt check demo >build/demo.log 2>&1 || { cat build/demo.log; exit 1; }
-	@target/bin/demo
+	@c/demo
+
+lib:
+	@c/build
+	@echo 'build/libjigwandor.a, for x86-64 Linux; it needs the C library alone: cc -Ibuild program.c build/libjigwandor.a'
+
+doors: setup-c
+	@tests/doors
+	@tests/demo
 
 test: setup
 	@tests/run '$(UPSTREAM)'
