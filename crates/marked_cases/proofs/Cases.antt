@@ -14,12 +14,14 @@ use Rattle.region.specs.Edges.{northward, normalOf, inLonRange, isCounted}
 use Rattle.region.specs.View.{edgesFrom, edgesOf, oddMany, oddAt, contained, normalsOf}
 use Rattle.region.specs.Poles.{stepOf, basicFrom, basicOf, ruleFlag}
 use Rattle.region.specs.Region.{containsOf, ruleAt, flagOf, buildOf}
+use Rattle.region_file.specs.Bytes.{bytesOf, cornerBytes, cornersBytes}
+use Rattle.region_file.specs.File.{trailerBytes, fileOf}
 use Rattle.root.specs.Root.{sqrtOf}
 use Rattle.marked_cases.specs.Cases.{MarkedCases}
 use Rattle.marked_cases.proofs.OneCorner.{one-corner}
 
 pub marked-cases : MarkedCases
-unfolding sub mul div le ofBits absOf sqrtOf dotOf crossOf inDomain pointAt pointsFrom pointsOf lastOf along nextOf putAlong northward normalOf inLonRange isCounted edgesFrom edgesOf oddMany oddAt contained normalsOf stepOf basicFrom basicOf ruleFlag ruleAt flagOf buildOf containsOf checked changed editOf isParallel southOf northOf spansLat straddles eitherOf caseB pointOf parallelCrossing firstFit parallelFirstOf parallelAllOf crossingsOf allFinite allOf firstOf
+unfolding sub mul div le ofBits absOf sqrtOf dotOf crossOf inDomain pointAt pointsFrom pointsOf lastOf along nextOf putAlong northward normalOf inLonRange isCounted edgesFrom edgesOf oddMany oddAt contained normalsOf stepOf basicFrom basicOf ruleFlag ruleAt flagOf buildOf containsOf checked changed editOf isParallel southOf northOf spansLat straddles eitherOf caseB pointOf parallelCrossing firstFit parallelFirstOf parallelAllOf crossingsOf allFinite allOf firstOf bytesOf cornerBytes cornersBytes trailerBytes fileOf
 marked-cases =
     record {
       flag-clear = refl;
@@ -34,4 +36,5 @@ marked-cases =
       equator-none = (refl, refl);
       first-crossing = refl;
       roots = (refl, refl);
+      trailer = refl;
     }

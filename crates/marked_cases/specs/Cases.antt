@@ -3,6 +3,7 @@ use mathlib.Core.Path.{_≡_}
 use mathlib.Core.Bool.{Bool, true, false}
 use mathlib.Core.List.{List, [], _∷_, map}
 use lib.Ieee.{Float, binary64, ofBits}
+use lib.ListN.{drop}
 use Rattle.coo3d.specs.declared.Coo3D.{Coo3D}
 use Rattle.coo3d.specs.declared.UnitVect3.{UnitVect3}
 use Rattle.coo3d.specs.Vectors.{vectOfPoint, dotOf}
@@ -15,6 +16,7 @@ use Rattle.region.specs.declared.ContainsSouthPoleMethod.the-variants.{Default,
 use Rattle.region.specs.Edges.{Edge, inLonRange, isCounted}
 use Rattle.region.specs.View.{View, edgesOf, made}
 use Rattle.region.specs.Region.{buildOf, containsOf}
+use Rattle.region_file.specs.File.{fileOf}
 use Rattle.root.specs.Root.{sqrtOf}
 
 -- ---- doubles, by their bits
@@ -133,4 +135,5 @@ pub record MarkedCases : Type 0 where
   pub first-crossing : firstAt quarterArc half half threeQuarters ≡ answered (record { x = threeQuarters; y = minusNought; z = half } ∷ [])
   -- 12. Root of 2^−1074 is 2^−537; of −0, −0.
   pub roots : (sqrtOf (ofBits binary64 1) ≡ ofBits binary64 0x1E60_0000_0000_0000) × (sqrtOf minusNought ≡ minusNought)
-  -- 13: region_file
+  -- 13. S's trailer: 01 00 00 00 00 00 00 00 04 00 00 00 B0 00 00 00. It follows the four corners' 160 bytes.
+  pub trailer : andThen S (λ v. answered (drop 160 (fileOf v))) ≡ answered (1 ∷ 0 ∷ 0 ∷ 0 ∷ 0 ∷ 0 ∷ 0 ∷ 0 ∷ 4 ∷ 0 ∷ 0 ∷ 0 ∷ 0xB0 ∷ 0 ∷ 0 ∷ 0 ∷ [])
