@@ -4,7 +4,7 @@ ghost use Prim.Native.Nat.{_≤_, _<_};
 ghost use lib.ListN.{take};
 ghost use Rattle.refusal.specs.Answer.{answered, refusedFor, outcomeOf, decisionAnswer, andThen};
 ghost use Rattle.region.specs.Edges.{Edge, normalOf, inLonRange, isCounted};
-ghost use Rattle.region.specs.View.{viewOf, withFlag, normalsOf, oddAt};
+ghost use Rattle.region.specs.View.{viewOf, withFlag, normalsOf};
 ghost use Rattle.region.specs.Region.{controlAt, flagOf, buildOf, containsOf};
 ghost use Rattle.region.specs.Poles.{stepOf, basicOf};
 use coo3d::Coo3D;
@@ -123,36 +123,45 @@ fn basic(vertices: [Coo3D; 64], count: usize) -> bool
     (float::abs(sum_delta_lon) > float::PI) & (gravity_center_z < 0.0)
 }
 
-// Whether an odd number of edges is counted at the point.
-fn odd_num_intersect_going_south(r: Region, coo: Coo3D) -> bool
-    requires { ⌜ (0 < r .count) × (r .count ≤ 64) ⌝ }
-    ensures { λ b. ⌜ b ≡ oddAt coo (viewOf r) ⌝ }
+// The edges are passed here and not in a helper, which would copy the region.
+pub fn contains(r: Region, coo: Coo3D) -> Decision
+    ensures { λ d. ⌜ decisionAnswer d ≡ containsOf (viewOf r) coo ⌝ }
 {
     let count = r.count;
+    if count == 0 {
+        return Decision::Refused(Cause::NoPoint);
+    }
+    if count > 64 {
+        return Decision::Refused(Cause::TooManyPoints);
+    }
+    let PointCheck::Point(p) = domain::check_point(coo, 0) else {
+        return Decision::Refused(Cause::OutsideDomain(0));
+    };
     let last = count - 1;
     let mut from = r.vertices[last];
-    let mut odd = false;
+    let mut is_inside = r.contains_south_pole;
     let mut i: usize = 0;
     while i < count {
         let to = r.vertices[i];
         let n = r.cross_products[i];
-        odd = odd != is_counted(coo, from, to, n);
+        is_inside = is_inside != is_counted(p, from, to, n);
         from = to;
         i += 1;
     }
-    odd
+    refusal::decide(is_inside)
 }
 
-// The flag with which the region contains the control point, or does not.
+// The flag with which the region contains the control point, or does not. As it stands the region tells on which side the point is.
 fn flag_for_control_point(r: Region, control_point: Coo3D, is_in: bool) -> Decision
     requires { ⌜ (0 < r .count) × (r .count ≤ 64) ⌝ }
     ensures { λ d. ⌜ decisionAnswer d ≡ controlAt (viewOf r) «control_point» «is_in» ⌝ }
 {
     let count = r.count;
-    let PointCheck::Point(coo) = domain::check_point(control_point, count) else {
-        return Decision::Refused(Cause::OutsideDomain(count));
-    };
-    refusal::decide(odd_num_intersect_going_south(r, coo) != is_in)
+    match contains(r, control_point) {
+        Decision::Yes => refusal::decide(r.contains_south_pole == is_in),
+        Decision::No => refusal::decide(r.contains_south_pole != is_in),
+        Decision::Refused(_) => Decision::Refused(Cause::OutsideDomain(count)),
+    }
 }
 
 // The flag that the rule sets for a region of these corners and normals. A control point is numbered by the count.
@@ -180,22 +189,6 @@ pub fn contains_south_pole(r: Region, method: ContainsSouthPoleMethod) -> Decisi
         ContainsSouthPoleMethod::ControlPointIn(p) => flag_for_control_point(r, p, true),
         ContainsSouthPoleMethod::ControlPointOut(p) => flag_for_control_point(r, p, false),
     }
-}
-
-pub fn contains(r: Region, coo: Coo3D) -> Decision
-    ensures { λ d. ⌜ decisionAnswer d ≡ containsOf (viewOf r) coo ⌝ }
-{
-    let count = r.count;
-    if count == 0 {
-        return Decision::Refused(Cause::NoPoint);
-    }
-    if count > 64 {
-        return Decision::Refused(Cause::TooManyPoints);
-    }
-    let PointCheck::Point(p) = domain::check_point(coo, 0) else {
-        return Decision::Refused(Cause::OutsideDomain(0));
-    };
-    refusal::decide(r.contains_south_pole != odd_num_intersect_going_south(r, p))
 }
 
 // A refused build; its region is free.
