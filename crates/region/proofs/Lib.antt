@@ -4,3 +4,4 @@ pub mod Corners
 pub mod Odd
 pub mod Flags
 pub mod Builds
+pub mod Building

@@ -2,9 +2,9 @@
 ghost use mathlib.Core.Path.{_≡_};
 ghost use Prim.Native.Nat.{_≤_, _<_};
 ghost use lib.ListN.{take};
-ghost use Rattle.refusal.specs.Answer.{answered, refusedFor, outcomeOf, decisionAnswer, andThen};
+ghost use Rattle.refusal.specs.Answer.{refusedFor, outcomeOf, decisionAnswer};
 ghost use Rattle.region.specs.Edges.{Edge, normalOf, inLonRange, isCounted};
-ghost use Rattle.region.specs.View.{viewOf, withFlag, normalsOf};
+ghost use Rattle.region.specs.View.{viewOf};
 ghost use Rattle.region.specs.Region.{controlAt, flagOf, buildOf, containsOf};
 ghost use Rattle.region.specs.Poles.{stepOf, basicOf};
 use coo3d::Coo3D;
@@ -63,30 +63,6 @@ pub fn is_counted(coo: Coo3D, from: Coo3D, to: Coo3D, normal: Vect3) -> bool
     ensures { λ r. ⌜ r ≡ isCounted coo (record { from = from; to = to; normal = normal }) ⌝ }
 {
     is_in_lon_range(coo, from, to) & (coo3d::dot_product(coo.to_vect3(), normal) > 0.0)
-}
-
-// Each edge's normal.
-fn compute_cross_products(vertices: [Coo3D; 64], count: usize) -> [Vect3; 64]
-    requires { ⌜ (0 < count) × (count ≤ 64) ⌝ }
-    ensures { λ r. ⌜ take count r ≡ normalsOf (take count vertices) ⌝ }
-{
-    let zero = Vect3 {
-        x: 0.0,
-        y: 0.0,
-        z: 0.0,
-    };
-    let mut out = [zero; 64];
-    let last = count - 1;
-    let mut from = vertices[last];
-    let mut i: usize = 0;
-    while i < count {
-        let to = vertices[i];
-        let n = edge_normal(from, to);
-        out[i] = n;
-        from = to;
-        i += 1;
-    }
-    out
 }
 
 // The sum of longitude steps, one more taken: the short way round where it crosses the seam.
@@ -218,52 +194,58 @@ pub fn refused(cause: Cause) -> Built
     }
 }
 
-// The region with the flag that was decided.
-fn flagged(r: Region, flag: Decision) -> Built
-    ensures { λ b. ⌜ outcomeOf (b .outcome) (viewOf (b .region)) ≡ andThen (decisionAnswer flag) (λ f. answered (withFlag (viewOf r) f)) ⌝ }
+// Upstream: `Polygon::new_custom_vec3`. The corners are checked and the normals worked out in the region itself, so that no array is copied on the way.
+pub fn build(points: [Coo3D; 64], count: usize, method: ContainsSouthPoleMethod) -> Built
+    ensures { λ b. ⌜ outcomeOf (b .outcome) (viewOf (b .region)) ≡ buildOf points count method ⌝ }
 {
-    match flag {
-        Decision::Refused(cause) => Built {
-            region: r,
-            outcome: Outcome::Refused(cause),
+    if count == 0 {
+        return refused(Cause::NoPoint);
+    }
+    if count > 64 {
+        return refused(Cause::TooManyPoints);
+    }
+    let zero = Vect3 {
+        x: 0.0,
+        y: 0.0,
+        z: 0.0,
+    };
+    let mut region = Region {
+        vertices: points,
+        cross_products: [zero; 64],
+        count,
+        contains_south_pole: false,
+    };
+    let mut i: usize = 0;
+    while i < count {
+        let p = points[i];
+        let PointCheck::Point(q) = domain::check_point(p, i) else {
+            return refused(Cause::OutsideDomain(i));
+        };
+        region.vertices[i] = q;
+        i += 1;
+    }
+    let last = count - 1;
+    let mut from = region.vertices[last];
+    let mut k: usize = 0;
+    while k < count {
+        let to = region.vertices[k];
+        let n = edge_normal(from, to);
+        region.cross_products[k] = n;
+        from = to;
+        k += 1;
+    }
+    match contains_south_pole(region, method) {
+        Decision::Refused(cause) => refused(cause),
+        Decision::No => Built {
+            region,
+            outcome: Outcome::Done,
         },
         Decision::Yes => {
-            let mut region = r;
             region.contains_south_pole = true;
             Built {
                 region,
                 outcome: Outcome::Done,
             }
-        }
-        Decision::No => {
-            let mut region = r;
-            region.contains_south_pole = false;
-            Built {
-                region,
-                outcome: Outcome::Done,
-            }
-        }
-    }
-}
-
-// Upstream: `Polygon::new_custom_vec3`.
-pub fn build(points: [Coo3D; 64], count: usize, method: ContainsSouthPoleMethod) -> Built
-    ensures { λ b. ⌜ outcomeOf (b .outcome) (viewOf (b .region)) ≡ buildOf points count method ⌝ }
-{
-    let checked = domain::check_points(points, count);
-    let outcome = checked.outcome;
-    let vertices = checked.points;
-    match outcome {
-        Outcome::Refused(cause) => refused(cause),
-        Outcome::Done => {
-            let cross_products = compute_cross_products(vertices, count);
-            let region = Region {
-                vertices,
-                cross_products,
-                count,
-                contains_south_pole: false,
-            };
-            flagged(region, contains_south_pole(region, method))
         }
     }
 }

@@ -1,90 +1,194 @@
 -- `region::build` meets its contract. Assumes nothing.
-use Prim.Native.Nat.{ℕ, _≤_, _<_}
-use native.Mathlib.Omega.{arith}
-use mathlib.Core.Path.{_≡_, sym, ap, _∙_}
-use mathlib.Core.Bool.{Bool, false}
-use mathlib.Core.List.{List}
-use lib.ListN.{length, take}
-use lib.Seq.{length-take-le}
-use Rattle.coo3d.specs.declared.Coo3D.{Coo3D}
-use Rattle.coo3d.specs.declared.Vect3.{Vect3}
-use Rattle.domain.specs.Checks.{pointsOf}
-use Rattle.domain.proofs.Points.{points-count}
-use Rattle.refusal.specs.Answer.{Answer, answered, refused, outcomeOf, andThen}
-use Rattle.refusal.specs.declared.Outcome.{Outcome}
-use Rattle.region.specs.declared.ContainsSouthPoleMethod.{ContainsSouthPoleMethod}
-use Rattle.region.specs.View.{View, withFlag, made, normalsOf}
-use Rattle.region.specs.Region.{flagOf, buildOf}
-use Rattle.region.proofs.Lengths.{unmap}
+use Prim.Native.Nat.{_-_}
+use mathlib.Core.Path.{_≡_, refl, sym, ap, _∙_}
+use lib.ListN.{length}
 use borrow.Author.Needs.{needs}
+use Rattle.domain.specs.Checks.{pointAnswer}
+use Rattle.refusal.specs.Answer.{decisionAnswer}
+use Rattle.region.proofs.Building.{Checking, checking-starts, checking-good, checking-bad, Working, working-starts, working-turn, passed-on, no-points, many-points, ends, as-clear}
 use Rattle.region.proofs.build.Statement.{statement}
 use Rattle.region.proofs.build.Tie as tie
 
-passed-on : (l : List Coo3D) (n : ℕ) (rule : ContainsSouthPoleMethod) (k : ℕ) (vs : List ℕ) → refused k vs ≡ pointsOf l n → refused k vs ≡ buildOf l n rule
-unfolding buildOf
-passed-on l n rule k vs e = rw (sym e)
+abbrev Inv-loop : tie.InvT-loop
+Inv-loop count method points region₀ i₀ region i = Checking points count region i
 
--- the arrays' first entries, with a clear flag, are the region made of the corners
-as-made : (n : ℕ) (cs : List Coo3D) (ns : List Vect3) → length cs ≡ n → ns ≡ normalsOf cs → record { count = n; corners = cs; normals = ns; flag = false } ≡ made cs false
-as-made n cs ns e p = rw (sym e, p)
+abbrev μ-loop : tie.MeasureT-loop
+μ-loop count method points region₀ i₀ region i = count - i
 
-built : (l : List Coo3D) (n : ℕ) (rule : ContainsSouthPoleMethod) (cs : List Coo3D) (w : View) (d : Answer Bool) → answered cs ≡ pointsOf l n → w ≡ made cs false → d ≡ flagOf w rule → andThen d (λ f. answered (withFlag w f)) ≡ buildOf l n rule
-unfolding buildOf
-built l n rule cs w d e p q = rw (q, p, sym e)
+abbrev Inv-loop2 : tie.InvT-loop2
+Inv-loop2 count method region₀ i last from₀ k₀ region from k = Working (region₀ .vertices) count region from k
 
--- what the check answered, where it is done
-done : (c : tie.After-enum-told) → answered (take (c .before .before .before .before .args .count) (c .before .before .before .check-points .result .points)) ≡ pointsOf (c .before .before .before .before .args .points) (c .before .before .before .before .args .count)
-done c = ap (λ (o : Outcome). outcomeOf o (take (c .before .before .before .before .args .count) (c .before .before .before .check-points .result .points))) (sym (c .enum-told .given .1)) ∙ c .before .before .before .check-points .ensures
+abbrev μ-loop2 : tie.MeasureT-loop2
+μ-loop2 count method region₀ i last from₀ k₀ region from k = count - k
 
-range : (c : tie.After-enum-told) → (0 < c .before .before .before .before .args .count) × (c .before .before .before .before .args .count ≤ 64)
-range c = points-count _ _ _ (sym (done c))
-
-check-points-requires : tie.Need-check-points-requires
-check-points-requires c κs = search needs
-
-enum-known-outcome : tie.Need-enum-known-outcome
-enum-known-outcome c = search needs
-
-refused-requires : tie.Need-refused-requires
+refused-requires : tie.Need-refused-requires Inv-loop μ-loop Inv-loop2 μ-loop2
 refused-requires c κs = search needs
 
-enum-told : tie.Need-enum-told
+returns : tie.Need-returns Inv-loop μ-loop Inv-loop2 μ-loop2
+returns c = c .refused .ensures ∙ passed-on _ _ _ _ _ (sym (no-points _ (c .before .if1 .taken)))
+
+refused-requires-2 : tie.Need-refused-requires-2 Inv-loop μ-loop Inv-loop2 μ-loop2
+refused-requires-2 c κs = search needs
+
+returns-2 : tie.Need-returns-2 Inv-loop μ-loop Inv-loop2 μ-loop2
+returns-2 c = c .refused2 .ensures ∙ passed-on _ _ _ _ _ (sym (many-points _ _ (c .before .before .if1 .left) (c .before .if2 .taken)))
+
+loop-holds : tie.Need-loop-holds Inv-loop μ-loop Inv-loop2 μ-loop2
+loop-holds c = let e : length (c .before .before .args .t1) ≡ 64 = search needs in checking-starts _ _ _ refl e refl refl refl
+
+mul-p : tie.Need-mul-p Inv-loop μ-loop Inv-loop2 μ-loop2
+mul-p c = search needs
+
+array-copy-out-p : tie.Need-array-copy-out-p Inv-loop μ-loop Inv-loop2 μ-loop2
+array-copy-out-p c = search needs
+
+check-point-requires : tie.Need-check-point-requires Inv-loop μ-loop Inv-loop2 μ-loop2
+check-point-requires c κs = search needs
+
+enum-known-q : tie.Need-enum-known-q Inv-loop μ-loop Inv-loop2 μ-loop2
+enum-known-q c = search needs
+
+enum-told : tie.Need-enum-told Inv-loop μ-loop Inv-loop2 μ-loop2
 enum-told c = search needs
 
-compute-cross-products-requires : tie.Need-compute-cross-products-requires
-compute-cross-products-requires c κs = range c
+refused-requires-3 : tie.Need-refused-requires-3 Inv-loop μ-loop Inv-loop2 μ-loop2
+refused-requires-3 c κs = search needs
 
-contains-south-pole-requires : tie.Need-contains-south-pole-requires
+returns-3 : tie.Need-returns-3 Inv-loop μ-loop Inv-loop2 μ-loop2
+returns-3 c =
+    let l = c .before .before .before .before .before .before .loop in
+    let told = ap pointAnswer (sym (c .before .enum-told .given .1)) ∙ c .before .before .before .check-point .ensures in
+    let e : length (c .before .before .before .before .before .before .before .before .before .args .t1) ≡ 64 = search needs in
+    c .refused3 .ensures ∙ passed-on _ _ _ _ _ (checking-bad (l .inv) e (c .before .before .before .before .before .before .before .before .if1 .left) (c .before .before .before .before .before .before .before .if2 .left) (c .before .before .before .before .before .loop-test .taken) _ _ told)
+
+mul-q : tie.Need-mul-q Inv-loop μ-loop Inv-loop2 μ-loop2
+mul-q c = search needs
+
+element-set-from-q : tie.Need-element-set-from-q Inv-loop μ-loop Inv-loop2 μ-loop2
+element-set-from-q c = search needs
+
+add-i : tie.Need-add-i Inv-loop μ-loop Inv-loop2 μ-loop2
+add-i c = search needs
+
+loop-less : tie.Need-loop-less Inv-loop μ-loop Inv-loop2 μ-loop2
+loop-less c = search needs
+
+loop-again : tie.Need-loop-again Inv-loop μ-loop Inv-loop2 μ-loop2
+loop-again c =
+    let l = c .before .before .before .before .before .before .loop in
+    let good = sym (c .before .before .before .check-point .ensures) ∙ ap pointAnswer (c .before .q .given .1) in
+    let e : length (c .before .before .before .before .before .before .before .before .before .args .t1) ≡ 64 = search needs in
+    checking-good (l .inv) e (c .before .before .before .before .before .before .before .if2 .left) (c .before .before .before .before .before .loop-test .taken) _ good
+
+sub-last : tie.Need-sub-last Inv-loop μ-loop Inv-loop2 μ-loop2
+sub-last c = search needs
+
+mul-from : tie.Need-mul-from Inv-loop μ-loop Inv-loop2 μ-loop2
+mul-from c = search needs
+
+element-copy-out-from : tie.Need-element-copy-out-from Inv-loop μ-loop Inv-loop2 μ-loop2
+element-copy-out-from c = search needs
+
+loop2-holds : tie.Need-loop2-holds Inv-loop μ-loop Inv-loop2 μ-loop2
+loop2-holds c = working-starts (c .before .before .loop .inv) (c .before .before .before .before .if1 .left) (c .before .before .before .if2 .left) (c .before .loop-test .left)
+
+mul-to : tie.Need-mul-to Inv-loop μ-loop Inv-loop2 μ-loop2
+mul-to c = search needs
+
+element-copy-out-to : tie.Need-element-copy-out-to Inv-loop μ-loop Inv-loop2 μ-loop2
+element-copy-out-to c = search needs
+
+edge-normal-requires : tie.Need-edge-normal-requires Inv-loop μ-loop Inv-loop2 μ-loop2
+edge-normal-requires c κs = search needs
+
+mul-n : tie.Need-mul-n Inv-loop μ-loop Inv-loop2 μ-loop2
+mul-n c = search needs
+
+element-set-from-n : tie.Need-element-set-from-n Inv-loop μ-loop Inv-loop2 μ-loop2
+element-set-from-n c = search needs
+
+add-k : tie.Need-add-k Inv-loop μ-loop Inv-loop2 μ-loop2
+add-k c = search needs
+
+loop2-less : tie.Need-loop2-less Inv-loop μ-loop Inv-loop2 μ-loop2
+loop2-less c = search needs
+
+loop2-again : tie.Need-loop2-again Inv-loop μ-loop Inv-loop2 μ-loop2
+loop2-again c = working-turn (c .before .before .before .loop2 .inv) (c .before .before .before .before .before .before .loop .inv .corners) (c .before .before .before .before .before .before .before .if2 .left) (c .before .before .loop2-test .taken) _ (c .edge-normal .ensures)
+
+contains-south-pole-requires :
+    tie.Need-contains-south-pole-requires Inv-loop μ-loop Inv-loop2 μ-loop2
 contains-south-pole-requires c κs = search needs
 
-flagged-requires : tie.Need-flagged-requires
-flagged-requires c κs = search needs
+enum-known-cause : tie.Need-enum-known-cause Inv-loop μ-loop Inv-loop2 μ-loop2
+enum-known-cause c = search needs
 
-returns : tie.Need-returns
-returns c =
-    let a = c .before .before .before .before .before .before .args in
-    let r = c .before .before .before .before .before .check-points in
-    c .refused .ensures ∙ passed-on (a .points) (a .count) (a .method) _ _ (ap (λ (o : Outcome). outcomeOf o (take (a .count) (r .result .points))) (sym (c .before .before .outcome .given .1)) ∙ r .ensures)
+refused-requires-4 : tie.Need-refused-requires-4 Inv-loop μ-loop Inv-loop2 μ-loop2
+refused-requires-4 c κs = search needs
 
-returns-2 : tie.Need-returns-2
-returns-2 c =
-    let s = c .before .before .before in
-    let n = s .before .before .before .before .args .count in
-    let l = s .before .before .before .check-points .result .points in
-    let e : length l ≡ 64 = search unmap in
-    let h : n ≤ length l = omega (arith, range s, e) in
-    c .flagged .ensures ∙ built _ _ _ _ _ _ (done s) (as-made n (take n l) _ (length-take-le n l h) (c .before .before .compute-cross-products .ensures)) (c .before .contains-south-pole .ensures)
+enum-told-2 : tie.Need-enum-told-2 Inv-loop μ-loop Inv-loop2 μ-loop2
+enum-told-2 c = search needs
+
+enum-told-3 : tie.Need-enum-told-3 Inv-loop μ-loop Inv-loop2 μ-loop2
+enum-told-3 c = search needs
+
+returns-4 : tie.Need-returns-4 Inv-loop μ-loop Inv-loop2 μ-loop2
+returns-4 c =
+    let e : length (c .before .before .before .before .before .before .before .before .before .before .before .before .args .t1) ≡ 64 = search needs in
+    c .refused4 .ensures ∙ ends (c .before .before .before .before .before .before .before .before .before .loop .inv) (c .before .before .before .before .before .before .loop2 .inv) e (c .before .before .before .before .before .before .before .before .before .before .before .if1 .left) (c .before .before .before .before .before .before .before .before .before .before .if2 .left) (c .before .before .before .before .before .before .before .before .loop-test .left) (c .before .before .before .before .before .loop2-test .left) _ _ (c .before .before .before .before .contains-south-pole .ensures) _ (ap decisionAnswer (c .before .before .cause .given .1))
+
+returns-5 : tie.Need-returns-5 Inv-loop μ-loop Inv-loop2 μ-loop2
+returns-5 c =
+    let e : length (c .before .before .before .before .before .before .before .before .before .before .args .t1) ≡ 64 = search needs in
+    as-clear (c .before .before .before .before .before .before .before .loop .inv) (c .before .before .before .before .loop2 .inv) ∙ ends (c .before .before .before .before .before .before .before .loop .inv) (c .before .before .before .before .loop2 .inv) e (c .before .before .before .before .before .before .before .before .before .if1 .left) (c .before .before .before .before .before .before .before .before .if2 .left) (c .before .before .before .before .before .before .loop-test .left) (c .before .before .before .loop2-test .left) _ _ (c .before .before .contains-south-pole .ensures) _ (ap decisionAnswer (c .enum-told2 .given .1))
+
+returns-6 : tie.Need-returns-6 Inv-loop μ-loop Inv-loop2 μ-loop2
+returns-6 c =
+    let e : length (c .before .before .before .before .before .before .before .before .before .before .args .t1) ≡ 64 = search needs in
+    ends (c .before .before .before .before .before .before .before .loop .inv) (c .before .before .before .before .loop2 .inv) e (c .before .before .before .before .before .before .before .before .before .if1 .left) (c .before .before .before .before .before .before .before .before .if2 .left) (c .before .before .before .before .before .before .loop-test .left) (c .before .before .before .loop2-test .left) _ _ (c .before .before .contains-south-pole .ensures) _ (ap decisionAnswer (c .enum-told3 .given .1))
 
 pub build-spec : {M : Type 1} → statement M
 build-spec =
     tie.close
     (tie.spec
-    check-points-requires
-    enum-known-outcome
+    Inv-loop
+    μ-loop
+    Inv-loop2
+    μ-loop2
     refused-requires
-    enum-told
-    compute-cross-products-requires
-    contains-south-pole-requires
-    flagged-requires
     returns
-    returns-2)
+    refused-requires-2
+    returns-2
+    loop-holds
+    mul-p
+    array-copy-out-p
+    check-point-requires
+    enum-known-q
+    enum-told
+    refused-requires-3
+    returns-3
+    mul-q
+    element-set-from-q
+    add-i
+    loop-less
+    loop-again
+    sub-last
+    mul-from
+    element-copy-out-from
+    loop2-holds
+    mul-to
+    element-copy-out-to
+    edge-normal-requires
+    mul-n
+    element-set-from-n
+    add-k
+    loop2-less
+    loop2-again
+    contains-south-pole-requires
+    enum-known-cause
+    refused-requires-4
+    enum-told-2
+    enum-told-3
+    returns-4
+    returns-5
+    returns-6)

@@ -1,0 +1,142 @@
+-- Laws for `build`, which checks the corners and works out the normals in the region that it makes.
+use Prim.Native.Nat.{ℕ, _+_, _-_, _≤_, _<_}
+use native.Mathlib.Omega.{arith}
+use mathlib.Core.Path.{_≡_, refl, sym, ap, _∙_}
+use mathlib.Core.Bool.{Bool, false}
+use mathlib.Core.List.{List, [], _∷_, _++_}
+use lib.ListN.{length, take, drop, getD, set, length-set}
+use lib.Seq.{length-take-le}
+use Rattle.coo3d.specs.declared.Coo3D.{Coo3D}
+use Rattle.coo3d.specs.declared.Vect3.{Vect3}
+use Rattle.domain.specs.Checks.{pointAt, pointsFrom, pointsOf}
+use Rattle.domain.proofs.Counts.{count-none, count-many, count-few}
+use Rattle.domain.proofs.Points.{soFar, far-start, far-good, far-bad, far-end}
+use Rattle.lists.specs.Cyclic.{along}
+use Rattle.refusal.specs.Answer.{Answer, answered, refused, andThen}
+use Rattle.region.specs.declared.Region.{Region}
+use Rattle.region.specs.declared.ContainsSouthPoleMethod.{ContainsSouthPoleMethod}
+use Rattle.region.specs.Edges.{normalOf}
+use Rattle.region.specs.View.{View, viewOf, withFlag, normalsOf, made, nowhere}
+use Rattle.region.specs.Region.{flagOf, buildOf}
+use Rattle.region.proofs.Corners.{normals-start, normals-turn, normals-done}
+
+no-zero : {n : ℕ} → (n ≡ 0 → ⊥) → 0 < n
+no-zero h = omega (arith, h)
+
+-- ---- the corners, checked one after the other
+
+pub record Checking (points : List Coo3D) (count : ℕ) (r : Region) (i : ℕ) : Type 0 where
+  pub below : i ≤ count
+  pub corners : length (r .vertices) ≡ 64
+  pub normals : length (r .«cross_products») ≡ 64
+  pub counted : r .count ≡ count
+  pub clear : r .«contains_south_pole» ≡ false
+  pub so-far : soFar points count i (r .vertices) ≡ pointsFrom 0 (take count points)
+
+pub checking-starts : (points : List Coo3D) (count : ℕ) (r : Region) → r .vertices ≡ points → length points ≡ 64 → length (r .«cross_products») ≡ 64 → r .count ≡ count → r .«contains_south_pole» ≡ false → Checking points count r 0
+checking-starts points count r v e n k f =
+    record { below = omega arith; corners = ap length v ∙ e; normals = n; counted = k; clear = f; so-far = far-start points count (r .vertices) }
+
+module _ {points : List Coo3D} {count i : ℕ} {r : Region} (inv : Checking points count r i) (full : length points ≡ 64) where
+  pub checking-good : count ≤ 64 → i < count → (q : Coo3D) → pointAt i (getD points i nowhere) ≡ answered q
+      → Checking points count (record { vertices = set (r .vertices) i q; «cross_products» = r .«cross_products»; count = r .count; «contains_south_pole» = r .«contains_south_pole» }) (i + 1)
+  checking-good few below q e =
+      let long : count ≤ length points = omega (arith, few, full) in
+      let corners = inv .corners in
+      let room : i < length (r .vertices) = omega (arith, below, few, corners) in
+      record {
+        below = omega (arith, below);
+        corners = length-set (r .vertices) i q ∙ inv .corners;
+        normals = inv .normals;
+        counted = inv .counted;
+        clear = inv .clear;
+        so-far = sym (far-good points count i (r .vertices) nowhere long below q room e) ∙ inv .so-far;
+      }
+
+  pub checking-bad : (count ≡ 0 → ⊥) → count ≤ 64 → i < count → (k : ℕ) (vs : List ℕ) → refused k vs ≡ pointAt i (getD points i nowhere) → refused 1 (i ∷ []) ≡ pointsOf points count
+  unfolding pointsOf
+  checking-bad some few below k vs e =
+      let long : count ≤ length points = omega (arith, few, full) in
+      sym (far-bad points count i (r .vertices) nowhere long below k vs e) ∙ inv .so-far ∙ sym (count-few count _ some few)
+
+  pub checked : (count ≡ 0 → ⊥) → count ≤ 64 → count ≤ i → answered (take count (r .vertices)) ≡ pointsOf points count
+  unfolding pointsOf
+  checked some few passed =
+      let long : count ≤ length points = omega (arith, few, full) in
+      let below = inv .below in
+      let at : i ≡ count = omega (arith, passed, below) in
+      sym (far-end points count i (r .vertices) long at) ∙ inv .so-far ∙ sym (count-few count _ some few)
+
+-- ---- the normals, worked out one after the other
+
+pub record Working (corners : List Coo3D) (count : ℕ) (r : Region) (from : Coo3D) (k : ℕ) : Type 0 where
+  pub below : k ≤ count
+  pub same : r .vertices ≡ corners
+  pub normals : length (r .«cross_products») ≡ 64
+  pub counted : r .count ≡ count
+  pub clear : r .«contains_south_pole» ≡ false
+  pub so-far : take k (r .«cross_products») ++ along normalOf from (drop k (take count corners)) ≡ normalsOf (take count corners)
+
+pub working-starts : {points : List Coo3D} {count i : ℕ} {r : Region} → Checking points count r i → (count ≡ 0 → ⊥) → count ≤ 64 → count ≤ i → Working (r .vertices) count r (getD (r .vertices) (count - 1) nowhere) 0
+working-starts {points} {count} {i} {r} inv some few passed =
+    let corners = inv .corners in
+    let long : count ≤ length (r .vertices) = omega (arith, few, corners) in
+    record {
+      below = omega arith;
+      same = refl;
+      normals = inv .normals;
+      counted = inv .counted;
+      clear = inv .clear;
+      so-far = normals-start (r .vertices) count nowhere (no-zero some) long;
+    }
+
+pub working-turn : {corners : List Coo3D} {count k : ℕ} {r : Region} {from : Coo3D} → Working corners count r from k → length corners ≡ 64 → count ≤ 64 → k < count → (n : Vect3) → n ≡ normalOf from (getD (r .vertices) k nowhere)
+    → Working corners count (record { vertices = r .vertices; «cross_products» = set (r .«cross_products») k n; count = r .count; «contains_south_pole» = r .«contains_south_pole» }) (getD (r .vertices) k nowhere) (k + 1)
+working-turn {corners} {count} {k} {r} {from} inv full few below n e =
+    let long : count ≤ length corners = omega (arith, few, full) in
+    let normals = inv .normals in
+    let room : k < length (r .«cross_products») = omega (arith, below, few, normals) in
+    let at : getD (r .vertices) k nowhere ≡ getD corners k nowhere = ap (λ (l : List Coo3D). getD l k nowhere) (inv .same) in
+    record {
+      below = omega (arith, below);
+      same = inv .same;
+      normals = length-set (r .«cross_products») k n ∙ inv .normals;
+      counted = inv .counted;
+      clear = inv .clear;
+      so-far = rw (e, at) (sym (normals-turn corners count from (r .«cross_products») k nowhere long below room) ∙ inv .so-far);
+    }
+
+-- ---- the answers
+
+pub passed-on : (l : List Coo3D) (n : ℕ) (rule : ContainsSouthPoleMethod) (k : ℕ) (vs : List ℕ) → refused k vs ≡ pointsOf l n → refused k vs ≡ buildOf l n rule
+unfolding buildOf
+passed-on l n rule k vs e = rw (sym e)
+
+pub no-points : (l : List Coo3D) {n : ℕ} → n ≡ 0 → pointsOf l n ≡ refused 2 []
+unfolding pointsOf
+no-points l {n} e = count-none n _ e
+
+pub many-points : (l : List Coo3D) (n : ℕ) → (n ≡ 0 → ⊥) → 64 < n → pointsOf l n ≡ refused 3 []
+unfolding pointsOf
+many-points l n some h = count-many n _ some h
+
+built : (l : List Coo3D) (n : ℕ) (rule : ContainsSouthPoleMethod) (cs : List Coo3D) (w : View) (d : Answer Bool) → answered cs ≡ pointsOf l n → w ≡ made cs false → d ≡ flagOf w rule → andThen d (λ f. answered (withFlag w f)) ≡ buildOf l n rule
+unfolding buildOf
+built l n rule cs w d e p q = rw (q, p, sym e)
+
+module _ {points : List Coo3D} {count i k : ℕ} {r₀ r : Region} {from : Coo3D} (first : Checking points count r₀ i) (second : Working (r₀ .vertices) count r from k) where
+  as-made : (full : length (r₀ .vertices) ≡ 64) → count ≤ 64 → count ≤ k → viewOf r ≡ made (take count (r₀ .vertices)) false
+  as-made full few passed =
+      let long : count ≤ length (r₀ .vertices) = omega (arith, few, full) in
+      let below = second .below in
+      let at : k ≡ count = omega (arith, passed, below) in
+      let normals : take count (r .«cross_products») ≡ normalsOf (take count (r₀ .vertices)) = sym (normals-done (r₀ .vertices) count from (r .«cross_products») k long at) ∙ second .so-far in
+      rw (second .counted, second .same, second .clear, normals, length-take-le count (r₀ .vertices) long)
+
+  pub ends : length points ≡ 64 → (count ≡ 0 → ⊥) → count ≤ 64 → count ≤ i → count ≤ k → (rule : ContainsSouthPoleMethod) (d : Answer Bool) → d ≡ flagOf (viewOf r) rule → (e : Answer Bool) → d ≡ e
+      → andThen e (λ f. answered (withFlag (viewOf r) f)) ≡ buildOf points count rule
+  ends full some few passed passed′ rule d q e p =
+      rw (sym p) (built points count rule (take count (r₀ .vertices)) (viewOf r) d (checked first full some few passed) (as-made (first .corners) few passed′) q)
+
+  pub as-clear : answered (viewOf r) ≡ answered (withFlag (viewOf r) false)
+  as-clear = rw (second .clear)
