@@ -1,15 +1,20 @@
--- A region's arrays after a corner is put in or taken out: the entries in use, and the view.
-use Prim.Native.Nat.{ℕ, _+_, _-_, _≤_, _<_}
-use mathlib.Core.Path.{_≡_, sym, ap, _∙_}
+-- A region's arrays while a corner is put in or taken out, and after: the entries in use, and the view.
+use Prim.Native.Nat.{ℕ, zero, suc, _+_, _-_, _≤_, _<_}
+use native.Mathlib.Omega.{arith}
+use mathlib.Core.Path.{_≡_, refl, sym, ap, subst, _∙_}
 use mathlib.Core.Bool.{Bool}
 use mathlib.Core.List.{List}
-use lib.ListN.{length, take, getD, set}
+use borrow.Author.Tests.{ne-eqb}
+use lib.ListN.{length, take, getD, set, length-set}
 use lib.Seq.{getD-take, length-take-le, take-set-lt}
 use Rattle.coo3d.specs.declared.Coo3D.{Coo3D}
 use Rattle.coo3d.specs.declared.Vect3.{Vect3}
-use Rattle.lists.specs.Cyclic.{ins, del, nextOf, thereOf, beforeOf, insAlong, delAlong}
+use Rattle.lists.specs.Cyclic.{ins, del, prevOf, nextOf, thereOf, beforeOf, insAlong, delAlong}
+use Rattle.lists.proofs.Shifts.{halves, started, moved, finished, raised-at, filled}
+use Rattle.region.specs.declared.Region.{Region}
 use Rattle.region.specs.Edges.{normalOf}
-use Rattle.region.specs.View.{View, nowhere}
+use Rattle.region.specs.View.{View, viewOf, nowhere}
+use Rattle.region.proofs.Edges.{last-take, nothing}
 use Rattle.edits.specs.Edits.{insert, remove, changed}
 
 -- the corner read at j, and the normal stored there, by the entries in use
@@ -47,3 +52,126 @@ module _ (vs vs' : List Coo3D) (ns ns' : List Vect3) (n i j : ℕ) (f : Bool) (f
       view-is (n - 1) _ _ _ _ f hv
       (stored-at ns' _ (n - 1) j closing below hn
       ∙ rw (h2, read-at vs' _ (n - 1) j below hv, hf, len, hj))
+
+-- ---- the corner before i, read from the array
+
+first : (l : List Coo3D) (n : ℕ) → 0 < n → n ≤ length l → getD l (n - 1) nowhere ≡ beforeOf nowhere (take n l) 0
+first l n some h = sym (last-take l n nowhere nowhere some h)
+
+other : (l : List Coo3D) (n i : ℕ) → suc i ≤ n → getD l i nowhere ≡ beforeOf nowhere (take n l) (suc i)
+other l n i h = sym (getD-take n l i nowhere h)
+
+pub before-at : (l : List Coo3D) (n i j : ℕ) → 0 < n → i ≤ n → n ≤ length l → j ≡ prevOf n i → getD l j nowhere ≡ beforeOf nowhere (take n l) i
+unfolding prevOf
+before-at l n zero j some h long e = rw e (first l n some long)
+before-at l n (suc i) j some h long e =
+    let d : suc i - 1 ≡ i = omega arith in
+    rw (e, ne-eqb (suc i) 0 (λ (z : suc i ≡ 0). omega (arith, z)), d) (other l n i h)
+
+-- ---- making room: the entries from i on move up, the last first
+
+pub record Raising (r : Region) (n i : ℕ) (o : Region) (k : ℕ) : Type 0 where
+  pub least : i ≤ k
+  pub most : k ≤ n
+  pub vertices : length (o .vertices) ≡ 64
+  pub normals : length (o .«cross_products») ≡ 64
+  pub flag : o .«contains_south_pole» ≡ r .«contains_south_pole»
+  pub vertices-left : halves nowhere (o .vertices) (n + 1) k ≡ take n (r .vertices)
+  pub normals-left : halves nothing (o .«cross_products») (n + 1) k ≡ take n (r .«cross_products»)
+
+pub raising-starts : (r : Region) (n i : ℕ) → length (r .vertices) ≡ 64 → length (r .«cross_products») ≡ 64 → i ≤ n → n < 64 → Raising r n i r n
+raising-starts r n i e d h few =
+    record {
+      least = h;
+      most = omega arith;
+      vertices = e;
+      normals = d;
+      flag = refl;
+      vertices-left = finished nowhere (r .vertices) (n + 1) n refl (omega (arith, e, few));
+      normals-left = finished nothing (r .«cross_products») (n + 1) n refl (omega (arith, d, few));
+    }
+
+pub raising-turn : {r : Region} {n i : ℕ} {o : Region} {k : ℕ} → Raising r n i o k → i < k → n < 64
+    → Raising r n i (record { vertices = set (o .vertices) k (getD (o .vertices) (k - 1) nowhere); «cross_products» = set (o .«cross_products») k (getD (o .«cross_products») (k - 1) nothing); count = o .count; «contains_south_pole» = o .«contains_south_pole» }) (k - 1)
+raising-turn {r} {n} {i} {o} {k} inv above few =
+    let most = inv .most in
+    let e = inv .vertices in
+    let d = inv .normals in
+    record {
+      least = omega (arith, above);
+      most = omega (arith, most);
+      vertices = length-set (o .vertices) k _ ∙ inv .vertices;
+      normals = length-set (o .«cross_products») k _ ∙ inv .normals;
+      flag = inv .flag;
+      vertices-left = raised-at nowhere (o .vertices) (n + 1) (k - 1) k (omega (arith, above)) (omega (arith, most)) (omega (arith, e, few)) ∙ inv .vertices-left;
+      normals-left = raised-at nothing (o .«cross_products») (n + 1) (k - 1) k (omega (arith, above)) (omega (arith, most)) (omega (arith, d, few)) ∙ inv .normals-left;
+    }
+
+pub inserted : {r : Region} {i : ℕ} {o : Region} {k : ℕ} → Raising r (r .count) i o k → k ≤ i → r .count < 64 → (j : ℕ) (p from : Coo3D) (a b : Vect3) → r .count ≤ length (r .vertices)
+    → from ≡ beforeOf nowhere (take (r .count) (r .vertices)) i → j ≡ nextOf (r .count + 1) i → j < r .count + 1 → a ≡ normalOf from p → b ≡ normalOf p (getD (set (o .vertices) i p) j nowhere)
+    → used (r .count + 1) (set (o .vertices) i p) (set (set (o .«cross_products») i a) j b) (o .«contains_south_pole») ≡ changed (insert i p) (viewOf r)
+inserted {r} {i} {o} {k} inv passed few j p from a b long hf hj below h1 h2 =
+    let n = r .count in
+    let least = inv .least in
+    let most = inv .most in
+    let e = inv .vertices in
+    let d = inv .normals in
+    let at : k ≡ i = omega (arith, passed, least) in
+    let vs : take (n + 1) (set (o .vertices) i p) ≡ ins i p (take n (r .vertices)) =
+    filled nowhere (o .vertices) (take n (r .vertices)) (n + 1) i p (omega (arith, passed, least, most)) (omega (arith, e, few)) (subst (λ (x : ℕ). halves nowhere (o .vertices) (n + 1) x ≡ take n (r .vertices)) at (inv .vertices-left))
+    in
+    let ns : take (n + 1) (set (o .«cross_products») i a) ≡ ins i a (take n (r .«cross_products»)) =
+    filled nothing (o .«cross_products») (take n (r .«cross_products»)) (n + 1) i a (omega (arith, passed, least, most)) (omega (arith, d, few)) (subst (λ (x : ℕ). halves nothing (o .«cross_products») (n + 1) x ≡ take n (r .«cross_products»)) at (inv .normals-left))
+    in
+    ap (used (n + 1) (set (o .vertices) i p) (set (set (o .«cross_products») i a) j b)) (inv .flag)
+    ∙ view-inserted (r .vertices) (set (o .vertices) i p) (r .«cross_products») (set (o .«cross_products») i a) n i j (r .«contains_south_pole») from p a b long hf hj below vs h1 h2 ns
+
+-- ---- closing a gap: the entries after i move down, the first first
+
+pub record Closing (r : Region) (n i : ℕ) (o : Region) (k : ℕ) : Type 0 where
+  pub below : k + 1 ≤ n
+  pub vertices : length (o .vertices) ≡ 64
+  pub normals : length (o .«cross_products») ≡ 64
+  pub flag : o .«contains_south_pole» ≡ r .«contains_south_pole»
+  pub vertices-left : halves nowhere (o .vertices) n k ≡ del i (take n (r .vertices))
+  pub normals-left : halves nothing (o .«cross_products») n k ≡ del i (take n (r .«cross_products»))
+
+pub closing-starts : (r : Region) (n i : ℕ) → length (r .vertices) ≡ 64 → length (r .«cross_products») ≡ 64 → i < n → Closing r n i r i
+closing-starts r n i e d h =
+    record {
+      below = omega (arith, h);
+      vertices = e;
+      normals = d;
+      flag = refl;
+      vertices-left = started nowhere (r .vertices) n i (omega (arith, h));
+      normals-left = started nothing (r .«cross_products») n i (omega (arith, h));
+    }
+
+pub closing-turn : {r : Region} {n i : ℕ} {o : Region} {k : ℕ} → Closing r n i o k → k + 1 < n → n ≤ 64
+    → Closing r n i (record { vertices = set (o .vertices) k (getD (o .vertices) (k + 1) nowhere); «cross_products» = set (o .«cross_products») k (getD (o .«cross_products») (k + 1) nothing); count = o .count; «contains_south_pole» = o .«contains_south_pole» }) (k + 1)
+closing-turn {r} {n} {i} {o} {k} inv h few =
+    let e = inv .vertices in
+    let d = inv .normals in
+    record {
+      below = omega (arith, h);
+      vertices = length-set (o .vertices) k _ ∙ inv .vertices;
+      normals = length-set (o .«cross_products») k _ ∙ inv .normals;
+      flag = inv .flag;
+      vertices-left = moved nowhere (o .vertices) n k h (omega (arith, e, few)) ∙ inv .vertices-left;
+      normals-left = moved nothing (o .«cross_products») n k h (omega (arith, d, few)) ∙ inv .normals-left;
+    }
+
+pub removed : {r : Region} {i : ℕ} {o : Region} {k : ℕ} → Closing r (r .count) i o k → r .count ≤ k + 1 → r .count ≤ 64 → (j : ℕ) (from : Coo3D) (closing : Vect3) → r .count ≤ length (r .vertices)
+    → from ≡ beforeOf nowhere (take (r .count) (r .vertices)) i → j ≡ thereOf (r .count) i → j < r .count - 1 → closing ≡ normalOf from (getD (o .vertices) j nowhere)
+    → used (r .count - 1) (o .vertices) (set (o .«cross_products») j closing) (o .«contains_south_pole») ≡ changed (remove i) (viewOf r)
+removed {r} {i} {o} {k} inv passed few j from closing long hf hj below h =
+    let n = r .count in
+    let last = inv .below in
+    let e = inv .vertices in
+    let d = inv .normals in
+    let at : n - 1 ≡ k = omega (arith, passed, last) in
+    let full : k + 1 ≡ n = omega (arith, passed, last) in
+    let vs : take (n - 1) (o .vertices) ≡ del i (take n (r .vertices)) = ap (λ (x : ℕ). take x (o .vertices)) at ∙ sym (finished nowhere (o .vertices) n k full (omega (arith, e, few))) ∙ inv .vertices-left in
+    let ns : take (n - 1) (o .«cross_products») ≡ del i (take n (r .«cross_products»)) = ap (λ (x : ℕ). take x (o .«cross_products»)) at ∙ sym (finished nothing (o .«cross_products») n k full (omega (arith, d, few))) ∙ inv .normals-left in
+    ap (used (n - 1) (o .vertices) (set (o .«cross_products») j closing)) (inv .flag)
+    ∙ view-removed (r .vertices) (o .vertices) (r .«cross_products») (o .«cross_products») n i j (r .«contains_south_pole») from closing long hf hj below vs h ns

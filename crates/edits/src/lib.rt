@@ -1,12 +1,9 @@
 // Edits of a region. A corner changed costs the normals it touches, and the region is still the one that a fresh build would give: the theorem in
 // specs/Theorem.antt. Upstream has `must_contain` alone.
-mod shifts;
-
 ghost use mathlib.Core.Path.{_≡_};
 ghost use Prim.Native.Nat.{_-_, _≤_, _<_};
-ghost use lib.ListN.{take, getD};
-ghost use Rattle.lists.specs.Cyclic.{nextOf, thereOf, beforeOf};
-ghost use Rattle.region.specs.View.{viewOf, withFlag, nowhere};
+ghost use Rattle.lists.specs.Cyclic.{prevOf, nextOf, thereOf};
+ghost use Rattle.region.specs.View.{viewOf, withFlag};
 ghost use Rattle.edits.specs.Edits.{Edited, changed};
 ghost use Rattle.refusal.specs.declared.Outcome.{Outcome};
 ghost use Rattle.edits.specs.Edits as edit;
@@ -24,18 +21,12 @@ pub struct EditAnswer {
     pub outcome: Outcome,
 }
 
-// The corner from which the edge to corner i comes.
-fn corner_before(r: Region, i: usize) -> Coo3D
-    requires { ⌜ (0 < r .count) × ((r .count ≤ 64) × (i ≤ r .count)) ⌝ }
-    ensures { λ c. ⌜ c ≡ beforeOf nowhere (take (r .count) (r .vertices)) i ⌝ }
+// The index before i, of n.
+fn index_before(n: usize, i: usize) -> usize
+    requires { ⌜ (0 < n) × ((n ≤ 64) × (i ≤ n)) ⌝ }
+    ensures { λ j. ⌜ (j ≡ prevOf n i) × (j < n) ⌝ }
 {
-    let count = r.count;
-    if i == 0 {
-        let last = count - 1;
-        return r.vertices[last];
-    }
-    let at = i - 1;
-    r.vertices[at]
+    if i == 0 { n - 1 } else { i - 1 }
 }
 
 // The index after i, of n.
@@ -55,72 +46,94 @@ fn index_left(n: usize, i: usize) -> usize
 }
 
 // The corner at i is p: its two edges' normals are worked out, at count 1 the one edge's.
-fn put_at(r: Region, i: usize, p: Coo3D) -> Region
+fn put_at(r: Region, i: usize, p: Coo3D) -> EditAnswer
     requires { ⌜ (i < r .count) × (r .count ≤ 64) ⌝ }
-    ensures { λ o. ⌜ viewOf o ≡ changed (edit.put i p) (viewOf r) ⌝ }
+    ensures { λ a. ⌜ (a .outcome ≡ Outcome.Done) × (viewOf (a .region) ≡ changed (edit.put i p) (viewOf r)) ⌝ }
 {
     let count = r.count;
-    let from = corner_before(r, i);
+    let h = index_before(count, i);
     let j = next_index(count, i);
-    let mut out = r;
-    out.vertices[i] = p;
+    let mut region = r;
+    let from = region.vertices[h];
+    region.vertices[i] = p;
     if count == 1 {
         let only = region::edge_normal(p, p);
-        out.cross_products[i] = only;
-        return out;
+        region.cross_products[i] = only;
+        return EditAnswer {
+            region,
+            outcome: Outcome::Done,
+        };
     }
-    let to = out.vertices[j];
+    let to = region.vertices[j];
     let first = region::edge_normal(from, p);
     let second = region::edge_normal(p, to);
-    out.cross_products[i] = first;
-    out.cross_products[j] = second;
-    out
+    region.cross_products[i] = first;
+    region.cross_products[j] = second;
+    EditAnswer {
+        region,
+        outcome: Outcome::Done,
+    }
 }
 
 // p stands before corner i: the new corner's two normals are worked out, the others move with their corners.
-fn insert_at(r: Region, i: usize, p: Coo3D) -> Region
+fn insert_at(r: Region, i: usize, p: Coo3D) -> EditAnswer
     requires { ⌜ (i ≤ r .count) × ((0 < r .count) × (r .count < 64)) ⌝ }
-    ensures { λ o. ⌜ viewOf o ≡ changed (edit.insert i p) (viewOf r) ⌝ }
+    ensures { λ a. ⌜ (a .outcome ≡ Outcome.Done) × (viewOf (a .region) ≡ changed (edit.insert i p) (viewOf r)) ⌝ }
 {
     let count = r.count;
-    let from = corner_before(r, i);
+    let h = index_before(count, i);
     let j = next_index(count + 1, i);
-    let corners = r.vertices;
-    let normals = r.cross_products;
-    let vertices = shifts::insert_corner(corners, i, p, count);
-    let to = vertices[j];
-    let first = region::edge_normal(from, p);
-    let second = region::edge_normal(p, to);
-    let mut cross_products = shifts::insert_normal(normals, i, first, count);
-    cross_products[j] = second;
-    Region {
-        vertices,
-        cross_products,
-        count: count + 1,
-        contains_south_pole: r.contains_south_pole,
+    let mut region = r;
+    let from = region.vertices[h];
+    let mut k = count;
+    while k > i {
+        let l = k - 1;
+        let v = region.vertices[l];
+        let n = region.cross_products[l];
+        region.vertices[k] = v;
+        region.cross_products[k] = n;
+        k = l;
+    }
+    region.vertices[i] = p;
+    let to = region.vertices[j];
+    let before = region::edge_normal(from, p);
+    let after = region::edge_normal(p, to);
+    region.cross_products[i] = before;
+    region.cross_products[j] = after;
+    region.count = count + 1;
+    EditAnswer {
+        region,
+        outcome: Outcome::Done,
     }
 }
 
 // Corner i is gone: the normal of the edge that closes the gap is worked out, the others move with their corners.
-fn remove_at(r: Region, i: usize) -> Region
+fn remove_at(r: Region, i: usize) -> EditAnswer
     requires { ⌜ (i < r .count) × ((1 < r .count) × (r .count ≤ 64)) ⌝ }
-    ensures { λ o. ⌜ viewOf o ≡ changed (edit.remove i) (viewOf r) ⌝ }
+    ensures { λ a. ⌜ (a .outcome ≡ Outcome.Done) × (viewOf (a .region) ≡ changed (edit.remove i) (viewOf r)) ⌝ }
 {
     let count = r.count;
-    let from = corner_before(r, i);
+    let h = index_before(count, i);
     let j = index_left(count, i);
-    let corners = r.vertices;
-    let normals = r.cross_products;
-    let vertices = shifts::remove_corner(corners, i, count);
-    let to = vertices[j];
+    let mut region = r;
+    let from = region.vertices[h];
+    let last = count - 1;
+    let mut k = i;
+    while k < last {
+        let l = k + 1;
+        let v = region.vertices[l];
+        let n = region.cross_products[l];
+        region.vertices[k] = v;
+        region.cross_products[k] = n;
+        k = l;
+    }
+    let to = region.vertices[j];
     let closing = region::edge_normal(from, to);
-    let mut cross_products = shifts::remove_normal(normals, i, count);
-    cross_products[j] = closing;
-    Region {
-        vertices,
-        cross_products,
-        count: count - 1,
-        contains_south_pole: r.contains_south_pole,
+    region.cross_products[j] = closing;
+    region.count = last;
+    EditAnswer {
+        region,
+        outcome: Outcome::Done,
     }
 }
 
@@ -149,11 +162,7 @@ pub fn put(r: Region, i: usize, corner: Coo3D) -> EditAnswer
     let PointCheck::Point(p) = domain::check_point(corner, 0) else {
         return refused(r, Cause::OutsideDomain(0));
     };
-    let region = put_at(r, i, p);
-    EditAnswer {
-        region,
-        outcome: Outcome::Done,
-    }
+    put_at(r, i, p)
 }
 
 // Before corner i; i equal to the count appends.
@@ -173,11 +182,7 @@ pub fn insert(r: Region, i: usize, corner: Coo3D) -> EditAnswer
     let PointCheck::Point(p) = domain::check_point(corner, 0) else {
         return refused(r, Cause::OutsideDomain(0));
     };
-    let region = insert_at(r, i, p);
-    EditAnswer {
-        region,
-        outcome: Outcome::Done,
-    }
+    insert_at(r, i, p)
 }
 
 pub fn remove(r: Region, i: usize) -> EditAnswer
@@ -193,11 +198,7 @@ pub fn remove(r: Region, i: usize) -> EditAnswer
     if i >= count {
         return refused(r, Cause::NoSuchIndex);
     }
-    let region = remove_at(r, i);
-    EditAnswer {
-        region,
-        outcome: Outcome::Done,
-    }
+    remove_at(r, i)
 }
 
 // The region with its flag as given.

@@ -1,5 +1,5 @@
 -- Lists whose last element stands before their first: corners, with something worked out of each edge's two ends.
-use Prim.Native.Nat.{ℕ, zero, suc, _+_}
+use Prim.Native.Nat.{ℕ, zero, suc, _+_, _-_}
 use mathlib.Core.Bool.{cond}
 use mathlib.Core.List.{List, [], _∷_}
 use lib.Dec.{eqb}
@@ -28,6 +28,10 @@ along f from [] = []
 along f from (c ∷ cs) = f from c ∷ along f c cs
 
 -- ---- places
+
+-- the place before i of n; i may be n
+unfoldable pub prevOf : ℕ → ℕ → ℕ
+prevOf n i = cond (eqb i 0) (n - 1) (i - 1)
 
 -- the place after i of n
 unfoldable pub nextOf : ℕ → ℕ → ℕ

@@ -1,5 +1,5 @@
 -- `edits::insert` meets its contract. Assumes nothing.
-use mathlib.Core.Path.{refl, sym, ap, _∙_}
+use mathlib.Core.Path.{sym, ap, _∙_}
 use Rattle.domain.specs.Checks.{pointAnswer}
 use Rattle.edits.proofs.Checked.{refused-edit, done-edit, refused-by, done-by, checked-none, insert-full, insert-index, insert-point, insert-done}
 use borrow.Author.Needs.{needs}
@@ -43,7 +43,7 @@ insert-at-requires : tie.Need-insert-at-requires
 insert-at-requires c κs = search needs
 
 returns-5 : tie.Need-returns-5
-returns-5 c = done-edit _ _ _ refl (done-by _ _ _ _ (insert-done _ (c .before .before .before .before .before .before .before .if1 .left) (c .before .before .before .before .before .before .if2 .left) _ _ (c .before .before .before .before .before .if3 .left) _ (ap pointAnswer (sym (c .before .before .p .given .1)) ∙ c .before .before .before .before .check-point .ensures)) (c .insert-at .ensures))
+returns-5 c = done-edit _ _ _ (c .insert-at .ensures .0) (done-by _ _ _ _ (insert-done _ (c .before .before .before .before .before .before .before .if1 .left) (c .before .before .before .before .before .before .if2 .left) _ _ (c .before .before .before .before .before .if3 .left) _ (ap pointAnswer (sym (c .before .before .p .given .1)) ∙ c .before .before .before .before .check-point .ensures)) (c .insert-at .ensures .1))
 
 pub insert-spec : {M : Type 1} → statement M
 insert-spec =

@@ -1,9 +1,10 @@
 -- `edits::put_at` meets its contract. Assumes nothing.
 use Prim.Native.Nat.{_≤_}
 use native.Mathlib.Omega.{arith}
-use mathlib.Core.Path.{_≡_}
+use mathlib.Core.Path.{_≡_, refl}
 use lib.ListN.{length}
 use Rattle.region.proofs.Lengths.{unmap}
+use Rattle.edits.proofs.Moved.{before-at}
 use Rattle.edits.proofs.PutAt.{put-two, put-only}
 use borrow.Author.Needs.{needs}
 use Rattle.edits.proofs.put_at.Statement.{statement}
@@ -12,11 +13,17 @@ use Rattle.edits.proofs.put_at.Tie as tie
 long : (c : tie.Start) → c .args .r .count ≤ length (c .args .r .vertices)
 long c = let e : length (c .args .r .vertices) ≡ 64 = search unmap in omega arith
 
-corner-before-requires : tie.Need-corner-before-requires
-corner-before-requires c κs = search needs
+index-before-requires : tie.Need-index-before-requires
+index-before-requires c κs = search needs
 
 next-index-requires : tie.Need-next-index-requires
 next-index-requires c κs = search needs
+
+mul-from : tie.Need-mul-from
+mul-from c = search needs
+
+element-copy-out-from : tie.Need-element-copy-out-from
+element-copy-out-from c = search needs
 
 mul-p : tie.Need-mul-p
 mul-p c = search needs
@@ -35,10 +42,10 @@ element-set-from-only c = search needs
 
 returns : tie.Need-returns
 returns c =
-    let s = c .before .before .before .before in
+    let s = c .before .before .before .before .before in
     let a = s .args in
-    let next = c .before .before .next-index in
-    put-only (a .r .count) (a .r .vertices) (a .r .«cross_products») (a .i) (next .result) (a .p) (s .pre .0) (long s) (next .ensures .0) (next .ensures .1) (a .r .«contains_south_pole») (c .edge-normal .result) (c .before .if1 .taken) (c .edge-normal .ensures)
+    let next = c .before .before .before .next-index in
+    (refl, put-only (a .r .count) (a .r .vertices) (a .r .«cross_products») (a .i) (next .result) (a .p) (s .pre .0) (long s) (next .ensures .0) (next .ensures .1) (a .r .«contains_south_pole») (c .edge-normal .result) (c .before .if1 .taken) (c .edge-normal .ensures))
 
 mul-to : tie.Need-mul-to
 mul-to c = search needs
@@ -66,18 +73,20 @@ element-set-from-second c = search needs
 
 returns-2 : tie.Need-returns-2
 returns-2 c =
-    let s = c .before .before .before .before .before .before in
+    let s = c .before .before .before .before .before .before .before in
     let a = s .args in
-    let next = c .before .before .before .before .next-index in
-    let from = c .before .before .before .before .before .corner-before in
-    put-two (a .r .count) (a .r .vertices) (a .r .«cross_products») (a .i) (next .result) (a .p) (s .pre .0) (long s) (next .ensures .0) (next .ensures .1) (a .r .«contains_south_pole») (from .result) (c .before .edge-normal2 .result) (c .edge-normal3 .result) (from .ensures) (c .before .edge-normal2 .ensures) (c .edge-normal3 .ensures)
+    let next = c .before .before .before .before .before .next-index in
+    let from = before-at (a .r .vertices) (a .r .count) (a .i) _ (search needs) (search needs) (long s) (c .before .before .before .before .before .before .index-before .ensures .0) in
+    (refl, put-two (a .r .count) (a .r .vertices) (a .r .«cross_products») (a .i) (next .result) (a .p) (s .pre .0) (long s) (next .ensures .0) (next .ensures .1) (a .r .«contains_south_pole») _ (c .before .edge-normal2 .result) (c .edge-normal3 .result) from (c .before .edge-normal2 .ensures) (c .edge-normal3 .ensures))
 
 pub put-at-spec : {M : Type 1} → statement M
 put-at-spec =
     tie.close
     (tie.spec
-    corner-before-requires
+    index-before-requires
     next-index-requires
+    mul-from
+    element-copy-out-from
     mul-p
     element-set-from-p
     edge-normal-requires

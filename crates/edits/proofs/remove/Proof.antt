@@ -1,5 +1,5 @@
 -- `edits::remove` meets its contract. Assumes nothing.
-use mathlib.Core.Path.{_≡_, refl}
+use mathlib.Core.Path.{_≡_}
 use Prim.Native.Nat.{ℕ, _<_}
 use native.Mathlib.Omega.{arith}
 use Rattle.edits.proofs.Checked.{refused-edit, done-edit, refused-by, done-by, checked-many, remove-few, remove-index, remove-done}
@@ -35,7 +35,7 @@ remove-at-requires : tie.Need-remove-at-requires
 remove-at-requires c κs = search needs
 
 returns-4 : tie.Need-returns-4
-returns-4 c = done-edit _ _ _ refl (done-by _ _ _ _ (remove-done _ (not-none (c .before .before .before .if1 .left)) (c .before .before .if2 .left) _ (not-one (c .before .before .before .if1 .left)) (c .before .if3 .left)) (c .remove-at .ensures))
+returns-4 c = done-edit _ _ _ (c .remove-at .ensures .0) (done-by _ _ _ _ (remove-done _ (not-none (c .before .before .before .if1 .left)) (c .before .before .if2 .left) _ (not-one (c .before .before .before .if1 .left)) (c .before .if3 .left)) (c .remove-at .ensures .1))
 
 pub remove-spec : {M : Type 1} → statement M
 remove-spec =
