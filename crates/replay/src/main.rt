@@ -1,7 +1,5 @@
 // Answers a stream of requests on standard input with a stream of answers on standard output (docs/COMPARISON.md has both): decodes, calls the
 // library's public functions, encodes.
-ghost use Rattle.edits.specs.Edits.{Edited};
-ghost use Rattle.edits.specs.Edits as edit;
 use cone::Cone;
 use cone::ConeAnswer;
 use coo3d::Coo3D;
@@ -257,18 +255,6 @@ fn answer_turn(s: State, out: &mut [u8; 65536]) -> State {
     put_edited(s, t, out, edits::turn(r))
 }
 
-// The region is lent for the call.
-fn hold_on_lent(r: Region, coo: Coo3D) -> EditAnswer
-    ensures { λ a. ⌜ Edited (edit.hold coo) r a ⌝ }
-{
-    let mut lent = r;
-    let outcome = edits::hold_lent(&mut lent, coo);
-    EditAnswer {
-        region: lent,
-        outcome,
-    }
-}
-
 // 6, 8
 fn answer_hold(s: State, number: u64, input: &mut [u8; 65536], out: &mut [u8; 65536]) -> State {
     let before = s.stream;
@@ -282,7 +268,7 @@ fn answer_hold(s: State, number: u64, input: &mut [u8; 65536], out: &mut [u8; 65
     if number == 6 {
         return put_edited(s, t, out, edits::hold(r, coo));
     }
-    put_edited(s, t, out, hold_on_lent(r, coo))
+    put_edited(s, t, out, lending::hold_on_lent(r, coo))
 }
 
 // 7

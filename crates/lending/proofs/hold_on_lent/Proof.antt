@@ -1,4 +1,4 @@
--- `replay::hold_on_lent` meets its contract: a walk of its MIR, by hand. A local is lent for a lifetime that is made for the call, `hold_lent` is called, the lifetime is ended, and the local is had again at the last value that the callee's contract says.
+-- `lending::hold_on_lent` meets its contract: a walk of its MIR, by hand. A local is lent for a lifetime that is made for the call, `hold_lent` is called, the lifetime is ended, and the local is had again at the last value that the callee's contract says.
 -- All that the proof knows of `hold_lent` is that it meets its contract. No machine value is written out.
 -- Assumes nothing.
 use mathlib.Core.Path.{_≡_, refl, ap, subst}
@@ -57,10 +57,10 @@ use Rattle.edits.proofs.hold_lent as core
 use Rattle.edits.proofs.hold_lent.Symbol as core-def
 use Rattle.edits.proofs.hold_lent.Symbol.{name as #edits·hold-lent}
 use Rattle.edits.proofs.hold_lent.Met as core-thm
-use Rattle.replay.proofs.hold_on_lent.Key.{name as #replay·hold-on-lent}
-use Rattle.replay.proofs.hold_on_lent as f
-use Rattle.replay.proofs.hold_on_lent.Statement as stated
-use Rattle.replay.proofs.hold_on_lent.Code as code
+use Rattle.lending.proofs.hold_on_lent.Key.{name as #lending·hold-on-lent}
+use Rattle.lending.proofs.hold_on_lent as f
+use Rattle.lending.proofs.hold_on_lent.Statement as stated
+use Rattle.lending.proofs.hold_on_lent.Code as code
 
 abbrev stayed : Stays (f.ended .signature .params) (f.ended .kept)
 stayed = (stay-none (λ _. R.the-row) yes, (stay-none (λ _. P.the-row) yes, tt))
@@ -182,6 +182,6 @@ pub hold-on-lent-spec : {M : Type 1} → stated.statement M
 unfolding code.routine tablesOf
 hold-on-lent-spec 𝓤 H 𝓜 𝓖 𝓡 =
     entered 𝓤 H (tripleOf 𝓤 H (𝓖 .A) f.signature (f.spec 𝓤 H (𝓖 .A) (𝓜 .mem) (𝓡 .run)))
-    (tables 𝓤 H 𝓜 𝓡 code.env .C) (tables 𝓤 H 𝓜 𝓡 code.env .Λ) #replay·hold-on-lent code.function (code.unfolded 𝓤 H 𝓜 𝓡)
+    (tables 𝓤 H 𝓜 𝓡 code.env .C) (tables 𝓤 H 𝓜 𝓡 code.env .Λ) #lending·hold-on-lent code.function (code.unfolded 𝓤 H 𝓜 𝓡)
     (meets 𝓤 H (𝓖 .A) (givenOf 𝓤 H 𝓜 𝓖) (𝓜 .mem) (𝓡 .run) (tablesOf 𝓤 H 𝓜 (tables 𝓤 H 𝓜 𝓡 code.env))
     (cited 𝓤 H (Core 𝓤 H (𝓖 .A) (𝓜 .mem) (𝓡 .run)) 𝓜 𝓡 code.env #edits·hold-lent core-def.routine code.calls-edits·hold-lent (core-thm.met 𝓤 H 𝓜 𝓖 𝓡)))
