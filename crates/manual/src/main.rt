@@ -1,12 +1,9 @@
 // The worked examples of docs/CALLS.md, in its order: what they print is crates/manual/stdout, and tests/manual holds the document to both.
-ghost use Rattle.edits.specs.Edits.{Edited};
-ghost use Rattle.edits.specs.Edits as edit;
 use coo3d::Coo3D;
 use coo3d::UnitVect3;
 use coo3d::Vect3;
 use crossings::Crossing;
 use crossings::FirstAnswer;
-use edits::EditAnswer;
 use refusal::Cause;
 use region::ContainsSouthPoleMethod;
 use region::Region;
@@ -61,6 +58,11 @@ fn region_build() {
     tell::built(region::build(corners, 4, ContainsSouthPoleMethod::ControlPointIn(south)));
     tell::built(region::build(corners, 4, ContainsSouthPoleMethod::ControlPointIn(wrong)));
     tell::built(region::build(corners, 65, ContainsSouthPoleMethod::Default));
+}
+
+fn region_refused() {
+    tell::call(b"region::refused");
+    tell::built(region::refused(Cause::WrongTrailer));
 }
 
 fn region_contains() {
@@ -157,23 +159,17 @@ fn edits_hold() {
     tell::edited(edits::hold(s, at(0.0, 0.0, -3.0, 0.0, -1.5)));
 }
 
-// A local region is lent for the call.
-fn hold_on_lent(r: Region, coo: Coo3D) -> EditAnswer
-    ensures { λ a. ⌜ Edited (edit.hold coo) r a ⌝ }
-{
-    let mut lent = r;
-    let outcome = edits::hold_lent(&mut lent, coo);
-    EditAnswer {
-        region: lent,
-        outcome,
-    }
-}
-
 fn edits_hold_lent() {
     tell::call(b"edits::hold_lent");
     let south = at(0.0, 0.0, -1.0, 0.0, -1.5);
     let s = square();
-    tell::edited(hold_on_lent(s, south));
+    tell::edited(lending::hold_on_lent(s, south));
+}
+
+fn lending_hold_on_lent() {
+    tell::call(b"lending::hold_on_lent");
+    let s = square();
+    tell::edited(lending::hold_on_lent(s, at(0.0, 0.0, -3.0, 0.0, -1.5)));
 }
 
 fn edits_rule() {
@@ -350,6 +346,62 @@ fn cone_bounding_cone() {
     let opposite = at(-1.0, 0.5, 0.0, 2.68, 0.0);
     points[1] = opposite;
     tell::cone(cone::bounding_cone(points, 2));
+}
+
+fn square_file() -> [u8; 176] {
+    let mut file: [u8; 176] = [0; 176];
+    let s = square();
+    region_file::write(s, &mut file);
+    file
+}
+
+fn region_file_read_trailer() {
+    tell::call(b"region_file::read_trailer");
+    let mut file = square_file();
+    tell::trailer(region_file::read_trailer(&file));
+    tell::trailer(region_file::read_trailer(&file[1..]));
+    file[168] = 65;
+    tell::trailer(region_file::read_trailer(&file));
+}
+
+fn region_file_read() {
+    tell::call(b"region_file::read");
+    let mut file = square_file();
+    let read = region_file::read(&file);
+    tell::built(read);
+    let r = read.region;
+    tell::decision(region::contains(r, at(0.0, 0.5, 0.5, 1.5, 0.5)));
+    tell::built(region_file::read(&file[1..]));
+    file[47] = 0x41;
+    tell::built(region_file::read(&file));
+}
+
+fn region_file_read_behind_a_front() {
+    let mut space: [u8; 200] = [0xAA; 200];
+    let s = square();
+    region_file::write(s, &mut space[24..]);
+    tell::built(region_file::read(&space));
+}
+
+fn region_file_write() {
+    tell::call(b"region_file::write");
+    let s = square();
+    let mut out: [u8; 200] = [0xAA; 200];
+    tell::written(region_file::write(s, &mut out));
+    tell::bytes(&out[160..176]);
+    tell::bytes(&out[176..180]);
+    let mut short: [u8; 100] = [0xAA; 100];
+    tell::written(region_file::write(s, &mut short));
+}
+
+fn region_file_set_flag() {
+    tell::call(b"region_file::set_flag");
+    let mut file = square_file();
+    region_file::set_flag(&mut file, true);
+    tell::bytes(&file[160..176]);
+    let read = region_file::read(&file);
+    let r = read.region;
+    tell::decision(region::contains(r, at(0.0, 0.5, 0.5, 1.5, 0.5)));
 }
 
 fn coo3d_dot_product() {
@@ -550,8 +602,156 @@ fn refusal_decide() {
     tell::decision(refusal::decide(true));
 }
 
+fn meridian_of_a_corner() {
+    tell::call(b"case a");
+    let s = square();
+    tell::decision(region::contains(s, at(0.5, 0.0, 0.5, 0.0, 0.75)));
+    tell::decision(region::contains(s, at(-0.5, 0.0, 0.5, 3.0, 0.75)));
+    tell::decision(region::contains(s, at(0.0, -0.5, 0.5, 4.5, 0.75)));
+}
+
+fn range_of_half_a_turn() {
+    tell::call(b"case b");
+    let v0 = at(1.0, 0.0, 0.0, 0.0, 0.0);
+    let v1 = at(0.5, 0.75, 0.0, 1.0, 0.0);
+    let v4 = at(-0.75, -0.75, 0.0, 4.0, 0.0);
+    let half = at(-1.0, 0.0, 0.0, float::PI, 0.0);
+    let above = at(-1.0, 0.0, 0.0, float::from_bits(0x4009_21fb_5444_2d19), 0.0);
+    tell::yes_no(region::is_in_lon_range(v1, half, v0));
+    tell::yes_no(region::is_in_lon_range(v4, half, v0));
+    tell::yes_no(region::is_in_lon_range(v1, above, v0));
+    tell::yes_no(region::is_in_lon_range(v4, above, v0));
+}
+
+fn edge_of_half_a_turn() {
+    let mut corners = square_corners();
+    let half = at(-0.5, 1.0, 0.0, float::PI, 0.0);
+    let c2 = at(0.0, -1.0, 0.0, 4.5, 0.0);
+    corners[1] = half;
+    corners[2] = c2;
+    let built = region::build(corners, 3, ContainsSouthPoleMethod::Default);
+    let r = built.region;
+    tell::decision(region::contains(r, at(0.0, 0.0, 1.0, 1.0, 0.5)));
+    tell::decision(region::contains(r, at(0.0, 0.0, 1.0, 4.0, 0.5)));
+}
+
+fn equal_longitudes() {
+    tell::call(b"case c");
+    let v1 = at(0.5, 0.75, 0.0, 1.0, 0.0);
+    tell::yes_no(region::is_in_lon_range(v1, v1, v1));
+    let mut corners = square_corners();
+    let c1 = at(0.0, 0.0, 1.0, 0.0, 1.5);
+    corners[1] = c1;
+    let built = region::build(corners, 2, ContainsSouthPoleMethod::Default);
+    let r = built.region;
+    let p = at(0.5, 0.5, 0.5, 0.0, 0.5);
+    tell::decision(region::contains(r, p));
+    let turned = edits::turn(r);
+    let other = turned.region;
+    tell::decision(region::contains(other, p));
+}
+
+fn longitude_of_a_whole_turn() {
+    tell::call(b"case d");
+    let mut corners = square_corners();
+    let c0 = at(1.0, 0.0, 0.0, float::TWO_PI, 0.0);
+    corners[0] = c0;
+    let built = region::build(corners, 4, ContainsSouthPoleMethod::Default);
+    let r = built.region;
+    let p = at(0.5, 0.0, 0.5, 0.0, 0.75);
+    let q = at(0.5, 0.0, 0.5, float::TWO_PI, 0.75);
+    tell::decision(region::contains(r, p));
+    tell::decision(region::contains(r, q));
+    let s = square();
+    tell::decision(region::contains(s, q));
+    tell::yes_no(region::is_in_lon_range(q, p, q));
+    tell::yes_no(region::is_in_lon_range(p, p, q));
+}
+
+fn insert_at_the_count() {
+    tell::call(b"case e");
+    let s = square();
+    let p = at(0.75, -0.75, -0.125, 5.5, -0.125);
+    tell::decision(region::contains(s, p));
+    let edited = edits::insert(s, 4, at(0.75, -0.75, -0.25, 5.5, -0.25));
+    tell::edited(edited);
+    let r = edited.region;
+    tell::decision(region::contains(r, p));
+    let last = r.vertices[4];
+    tell::vector(last.to_vect3());
+}
+
+fn two_puts() {
+    tell::call(b"case f");
+    let s = square();
+    let p = at(0.5, 0.5, 0.75, 0.75, 0.5);
+    let q = at(0.5, -0.25, 0.25, 5.0, 0.25);
+    let first = edits::put(s, 1, at(0.0, 1.0, 1.0, 1.5, 0.5));
+    let r = first.region;
+    tell::decision(region::contains(r, p));
+    tell::decision(region::contains(r, q));
+    let second = edits::put(r, 0, at(1.0, 0.0, 1.0, 0.0, 0.5));
+    let t = second.region;
+    tell::decision(region::contains(t, p));
+    tell::decision(region::contains(t, q));
+}
+
+fn holds_in_a_row() {
+    tell::call(b"case g");
+    let s = square();
+    let south = at(0.0, 0.0, -1.0, 0.0, -1.5);
+    let north = at(0.0, 0.0, 1.0, 0.0, 1.5);
+    let first = edits::hold(s, south);
+    tell::edited(first);
+    let r = first.region;
+    let second = edits::hold(r, north);
+    tell::edited(second);
+    let t = second.region;
+    tell::decision(region::contains(t, south));
+    tell::edited(edits::hold(t, north));
+}
+
+fn roots_beside_one() {
+    tell::call(b"case h");
+    tell::double(root::sqrt(float::from_bits(0x3fef_ffff_ffff_ffff)));
+    tell::double(root::sqrt(float::from_bits(0x3ff0_0000_0000_0001)));
+}
+
+fn north_edges() {
+    tell::call(b"case i");
+    let whole = zone_of(Zone::new(0.0, -float::HALF_PI, float::TWO_PI, float::HALF_PI));
+    let vertices = whole.vertices();
+    let nw = vertices[1];
+    tell::lon_lat(nw);
+    tell::yes_no(whole.contains(0.0, float::HALF_PI));
+    let north = float::from_bits(0x3ff9_21fb_5444_2d17);
+    let lower = zone_of(Zone::new(0.0, -float::HALF_PI, float::TWO_PI, north));
+    let others = lower.vertices();
+    let other = others[1];
+    tell::lon_lat(other);
+    tell::yes_no(lower.contains(0.0, float::HALF_PI));
+}
+
+fn minus_zero_in_a_file() {
+    tell::call(b"case j");
+    let mut corners = square_corners();
+    let c0 = at(1.0, -0.0, 0.0, -0.0, 0.0);
+    corners[0] = c0;
+    let built = region::build(corners, 4, ContainsSouthPoleMethod::Default);
+    let s = built.region;
+    let mut file: [u8; 176] = [0; 176];
+    region_file::write(s, &mut file);
+    tell::bytes(&file[8..16]);
+    let read = region_file::read(&file);
+    let r = read.region;
+    let corner = r.vertices[0];
+    tell::vector(corner.to_vect3());
+    tell::double(corner.lon);
+}
+
 fn main() {
     region_build();
+    region_refused();
     region_contains();
     region_contains_south_pole();
     region_edge_normal();
@@ -563,6 +763,7 @@ fn main() {
     edits_turn();
     edits_hold();
     edits_hold_lent();
+    lending_hold_on_lent();
     edits_rule();
     great_circles_intersect_great_circle_arc();
     great_circles_intersect_great_circle_arc_all();
@@ -581,6 +782,11 @@ fn main() {
     zone_contains_exclusive();
     zone_vertices();
     cone_bounding_cone();
+    region_file_read_trailer();
+    region_file_read();
+    region_file_read_behind_a_front();
+    region_file_write();
+    region_file_set_flag();
     coo3d_dot_product();
     coo3d_cross_product();
     coo3d_squared_norm_of();
@@ -612,4 +818,15 @@ fn main() {
     crossings_is_intersecting();
     refusal_number();
     refusal_decide();
+    meridian_of_a_corner();
+    range_of_half_a_turn();
+    edge_of_half_a_turn();
+    equal_longitudes();
+    longitude_of_a_whole_turn();
+    insert_at_the_count();
+    two_puts();
+    holds_in_a_row();
+    roots_beside_one();
+    north_edges();
+    minus_zero_in_a_file();
 }

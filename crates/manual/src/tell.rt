@@ -16,6 +16,8 @@ use refusal::Decision;
 use refusal::Outcome;
 use region::Built;
 use region::Region;
+use region_file::TrailerAnswer;
+use region_file::WriteAnswer;
 use zone::ZoneAnswer;
 
 fn say(text: &[u8]) {
@@ -119,17 +121,22 @@ pub(crate) fn outcome(answer: Outcome) {
     }
 }
 
+fn corners_and_flag(count: usize, flag: bool) {
+    say(b"corners ");
+    say_number(count as u64);
+    if flag {
+        say(b", flag set\n");
+    } else {
+        say(b", flag clear\n");
+    }
+}
+
 // Of a region that was done, the corner count and the flag.
 fn region(r: Region, outcome: Outcome) {
     match outcome {
         Outcome::Done => {
-            say(b"  done, corners ");
-            say_number(r.count as u64);
-            if r.contains_south_pole {
-                say(b", flag set\n");
-            } else {
-                say(b", flag clear\n");
-            }
+            say(b"  done, ");
+            corners_and_flag(r.count, r.contains_south_pole);
         }
         Outcome::Refused(cause) => refused(cause),
     }
@@ -214,6 +221,44 @@ pub(crate) fn cone(answer: ConeAnswer) {
         }
         ConeAnswer::Refused(cause) => refused(cause),
     }
+}
+
+pub(crate) fn trailer(answer: TrailerAnswer) {
+    match answer {
+        TrailerAnswer::Trailer(t) => {
+            say(b"  ");
+            corners_and_flag(t.count, t.flag);
+        }
+        TrailerAnswer::Refused(cause) => refused(cause),
+    }
+}
+
+pub(crate) fn written(answer: WriteAnswer) {
+    match answer {
+        WriteAnswer::Written(len) => {
+            say(b"  written ");
+            say_number(len as u64);
+            say(b"\n");
+        }
+        WriteAnswer::Refused(cause) => refused(cause),
+    }
+}
+
+// A byte that is a parameter has its bound.
+fn say_byte(b: u8) {
+    say(b" ");
+    io::print_hex(STDOUT_FILENO, b as u64, 2);
+}
+
+// Two digits for each byte.
+pub(crate) fn bytes(b: &[u8]) {
+    say(b" ");
+    let mut i: usize = 0;
+    while i < b.len() {
+        say_byte(b[i]);
+        i += 1;
+    }
+    say(b"\n");
 }
 
 // Of the point, x, y and z.
