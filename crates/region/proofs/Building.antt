@@ -1,8 +1,9 @@
 -- Laws for `build`, which checks the corners and works out the normals in the region that it makes.
 use Prim.Native.Nat.{ℕ, _+_, _-_, _≤_, _<_}
 use native.Mathlib.Omega.{arith}
-use mathlib.Core.Path.{_≡_, refl, sym, ap, _∙_}
-use mathlib.Core.Bool.{Bool, false}
+use mathlib.Core.Path.{_≡_, refl, sym, ap, subst, _∙_}
+use mathlib.Core.Bool.{Bool, true, false, not, _&&_}
+use lib.Ieee.{Float, lt}
 use mathlib.Core.List.{List, [], _∷_, _++_}
 use lib.ListN.{length, take, drop, getD, set, length-set}
 use lib.Seq.{length-take-le}
@@ -11,14 +12,18 @@ use Rattle.coo3d.specs.declared.Vect3.{Vect3}
 use Rattle.domain.specs.Checks.{pointAt, pointsFrom, pointsOf}
 use Rattle.domain.proofs.Counts.{count-none, count-many, count-few}
 use Rattle.domain.proofs.Points.{soFar, far-start, far-good, far-bad, far-end}
+use Rattle.float.specs.Doubles.{_⊕_, _⊖_, nought, pi, absOf}
 use Rattle.lists.specs.Cyclic.{along}
 use Rattle.refusal.specs.Answer.{Answer, answered, refused, andThen}
 use Rattle.region.specs.declared.Region.{Region}
 use Rattle.region.specs.declared.ContainsSouthPoleMethod.{ContainsSouthPoleMethod}
+use Rattle.region.specs.declared.ContainsSouthPoleMethod.the-variants.{Default, DefaultComplement, ContainsSouthPole, DoNotContainsSouthPole, ControlPointIn, ControlPointOut}
 use Rattle.region.specs.Edges.{normalOf}
+use Rattle.region.specs.Poles.{stepOf, basicFrom, basicOf}
 use Rattle.region.specs.View.{View, viewOf, withFlag, normalsOf, made, nowhere}
-use Rattle.region.specs.Region.{flagOf, buildOf}
-use Rattle.region.proofs.Corners.{normals-start, normals-turn, normals-done}
+use Rattle.region.specs.Region.{controlAt, flagOf, buildOf}
+use Rattle.region.proofs.Corners.{normals-start, normals-turn, normals-done, basic-start, basic-turn, basic-done}
+use Rattle.region.proofs.Flags.{flag-default, flag-complement, flag-set, flag-clear, flag-in, flag-out}
 
 no-zero : {n : ℕ} → (n ≡ 0 → ⊥) → 0 < n
 no-zero h = omega (arith, h)
@@ -69,15 +74,16 @@ module _ {points : List Coo3D} {count i : ℕ} {r : Region} (inv : Checking poin
 
 -- ---- the normals, worked out one after the other
 
-pub record Working (corners : List Coo3D) (count : ℕ) (r : Region) (from : Coo3D) (k : ℕ) : Type 0 where
+pub record Working (corners : List Coo3D) (count : ℕ) (r : Region) (from : Coo3D) (sum z : Float) (k : ℕ) : Type 0 where
   pub below : k ≤ count
   pub same : r .vertices ≡ corners
   pub normals : length (r .«cross_products») ≡ 64
   pub counted : r .count ≡ count
   pub clear : r .«contains_south_pole» ≡ false
   pub so-far : take k (r .«cross_products») ++ along normalOf from (drop k (take count corners)) ≡ normalsOf (take count corners)
+  pub sums : basicFrom sum z from (drop k (take count corners)) ≡ basicOf (take count corners)
 
-pub working-starts : {points : List Coo3D} {count i : ℕ} {r : Region} → Checking points count r i → (count ≡ 0 → ⊥) → count ≤ 64 → count ≤ i → Working (r .vertices) count r (getD (r .vertices) (count - 1) nowhere) 0
+pub working-starts : {points : List Coo3D} {count i : ℕ} {r : Region} → Checking points count r i → (count ≡ 0 → ⊥) → count ≤ 64 → count ≤ i → Working (r .vertices) count r (getD (r .vertices) (count - 1) nowhere) nought nought 0
 working-starts {points} {count} {i} {r} inv some few passed =
     let corners = inv .corners in
     let long : count ≤ length (r .vertices) = omega (arith, few, corners) in
@@ -88,11 +94,14 @@ working-starts {points} {count} {i} {r} inv some few passed =
       counted = inv .counted;
       clear = inv .clear;
       so-far = normals-start (r .vertices) count nowhere (no-zero some) long;
+      sums = basic-start (r .vertices) count nowhere (no-zero some) long;
     }
 
-pub working-turn : {corners : List Coo3D} {count k : ℕ} {r : Region} {from : Coo3D} → Working corners count r from k → length corners ≡ 64 → count ≤ 64 → k < count → (n : Vect3) → n ≡ normalOf from (getD (r .vertices) k nowhere)
-    → Working corners count (record { vertices = r .vertices; «cross_products» = set (r .«cross_products») k n; count = r .count; «contains_south_pole» = r .«contains_south_pole» }) (getD (r .vertices) k nowhere) (k + 1)
-working-turn {corners} {count} {k} {r} {from} inv full few below n e =
+pub working-turn : {corners : List Coo3D} {count k : ℕ} {r : Region} {from : Coo3D} {sum z : Float} → Working corners count r from sum z k → length corners ≡ 64 → count ≤ 64 → k < count
+    → (n : Vect3) → n ≡ normalOf from (getD (r .vertices) k nowhere) → (next : Float) → next ≡ stepOf sum (getD (r .vertices) k nowhere .lon ⊖ from .lon)
+    → Working corners count (record { vertices = r .vertices; «cross_products» = set (r .«cross_products») k n; count = r .count; «contains_south_pole» = r .«contains_south_pole» })
+    (getD (r .vertices) k nowhere) next (z ⊕ getD (r .vertices) k nowhere .z) (k + 1)
+working-turn {corners} {count} {k} {r} {from} {sum} {z} inv full few below n e next f =
     let long : count ≤ length corners = omega (arith, few, full) in
     let normals = inv .normals in
     let room : k < length (r .«cross_products») = omega (arith, below, few, normals) in
@@ -104,6 +113,7 @@ working-turn {corners} {count} {k} {r} {from} inv full few below n e =
       counted = inv .counted;
       clear = inv .clear;
       so-far = rw (e, at) (sym (normals-turn corners count from (r .«cross_products») k nowhere long below room) ∙ inv .so-far);
+      sums = rw (f, at) (sym (basic-turn corners count sum z from k nowhere long below) ∙ inv .sums);
     }
 
 -- ---- the answers
@@ -124,19 +134,50 @@ built : (l : List Coo3D) (n : ℕ) (rule : ContainsSouthPoleMethod) (cs : List C
 unfolding buildOf
 built l n rule cs w d e p q = rw (q, p, sym e)
 
-module _ {points : List Coo3D} {count i k : ℕ} {r₀ r : Region} {from : Coo3D} (first : Checking points count r₀ i) (second : Working (r₀ .vertices) count r from k) where
-  as-made : (full : length (r₀ .vertices) ≡ 64) → count ≤ 64 → count ≤ k → viewOf r ≡ made (take count (r₀ .vertices)) false
-  as-made full few passed =
-      let long : count ≤ length (r₀ .vertices) = omega (arith, few, full) in
+module _ {points : List Coo3D} {count i k : ℕ} {r₀ r : Region} {from : Coo3D} {sum z : Float} (first : Checking points count r₀ i) (second : Working (r₀ .vertices) count r from sum z k)
+    (full : length points ≡ 64) (some : count ≡ 0 → ⊥) (few : count ≤ 64) (passed : count ≤ i) (passed′ : count ≤ k) where
+  long : count ≤ length (r₀ .vertices)
+  long = let e = first .corners in omega (arith, few, e)
+
+  as-made : viewOf r ≡ made (take count (r₀ .vertices)) false
+  as-made =
       let below = second .below in
-      let at : k ≡ count = omega (arith, passed, below) in
+      let at : k ≡ count = omega (arith, passed′, below) in
       let normals : take count (r .«cross_products») ≡ normalsOf (take count (r₀ .vertices)) = sym (normals-done (r₀ .vertices) count from (r .«cross_products») k long at) ∙ second .so-far in
       rw (second .counted, second .same, second .clear, normals, length-take-le count (r₀ .vertices) long)
 
-  pub ends : length points ≡ 64 → (count ≡ 0 → ⊥) → count ≤ 64 → count ≤ i → count ≤ k → (rule : ContainsSouthPoleMethod) (d : Answer Bool) → d ≡ flagOf (viewOf r) rule → (e : Answer Bool) → d ≡ e
-      → andThen e (λ f. answered (withFlag (viewOf r) f)) ≡ buildOf points count rule
-  ends full some few passed passed′ rule d q e p =
-      rw (sym p) (built points count rule (take count (r₀ .vertices)) (viewOf r) d (checked first full some few passed) (as-made (first .corners) few passed′) q)
+  pub basic-is : (size : Float) → size ≡ absOf sum → (lt pi size && lt z nought) ≡ basicOf (take count (r₀ .vertices))
+  basic-is size e = rw e (sym (basic-done (r₀ .vertices) count sum z from k long passed′) ∙ second .sums)
 
-  pub as-clear : answered (viewOf r) ≡ answered (withFlag (viewOf r) false)
-  as-clear = rw (second .clear)
+  pub in-range : (0 < r .count) × (r .count ≤ 64)
+  in-range = subst (λ (n : ℕ). (0 < n) × (n ≤ 64)) (sym (second .counted)) (no-zero some, few)
+
+  pub ends : (rule : ContainsSouthPoleMethod) (d : Answer Bool) → d ≡ flagOf (viewOf r) rule → andThen d (λ f. answered (withFlag (viewOf r) f)) ≡ buildOf points count rule
+  ends rule d q = built points count rule (take count (r₀ .vertices)) (viewOf r) d (checked first full some few passed) as-made q
+
+  none : (viewOf r) .count ≡ 0 → ⊥
+  none z = some (sym (second .counted) ∙ z)
+
+  fits : (viewOf r) .count ≤ 64
+  fits = in-range .1
+
+  corners-are : (viewOf r) .corners ≡ take count (r₀ .vertices)
+  corners-are = rw (second .counted, second .same)
+
+  pub by-default : (b : Bool) → b ≡ basicOf (take count (r₀ .vertices)) → answered (withFlag (viewOf r) b) ≡ buildOf points count Default
+  by-default b e = ends Default (answered b) (sym (flag-default (viewOf r) none fits ∙ rw (corners-are, sym e)))
+
+  pub by-complement : (b : Bool) → b ≡ basicOf (take count (r₀ .vertices)) → answered (withFlag (viewOf r) (not b)) ≡ buildOf points count DefaultComplement
+  by-complement b e = ends DefaultComplement (answered (not b)) (sym (flag-complement (viewOf r) none fits ∙ rw (corners-are, sym e)))
+
+  pub by-set : answered (withFlag (viewOf r) true) ≡ buildOf points count ContainsSouthPole
+  by-set = ends ContainsSouthPole (answered true) (sym (flag-set (viewOf r) none fits))
+
+  pub by-clear : answered (withFlag (viewOf r) false) ≡ buildOf points count DoNotContainsSouthPole
+  by-clear = ends DoNotContainsSouthPole (answered false) (sym (flag-clear (viewOf r) none fits))
+
+  pub by-in : (p : Coo3D) (d : Answer Bool) → d ≡ controlAt (viewOf r) p true → andThen d (λ f. answered (withFlag (viewOf r) f)) ≡ buildOf points count (ControlPointIn p)
+  by-in p d e = ends (ControlPointIn p) d (e ∙ sym (flag-in (viewOf r) none fits p))
+
+  pub by-out : (p : Coo3D) (d : Answer Bool) → d ≡ controlAt (viewOf r) p false → andThen d (λ f. answered (withFlag (viewOf r) f)) ≡ buildOf points count (ControlPointOut p)
+  by-out p d e = ends (ControlPointOut p) d (e ∙ sym (flag-out (viewOf r) none fits p))

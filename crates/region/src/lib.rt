@@ -2,9 +2,9 @@
 ghost use mathlib.Core.Path.{_≡_};
 ghost use Prim.Native.Nat.{_≤_, _<_};
 ghost use lib.ListN.{take};
-ghost use Rattle.refusal.specs.Answer.{refusedFor, outcomeOf, decisionAnswer};
+ghost use Rattle.refusal.specs.Answer.{answered, refusedFor, outcomeOf, decisionAnswer, andThen};
 ghost use Rattle.region.specs.Edges.{Edge, normalOf, inLonRange, isCounted};
-ghost use Rattle.region.specs.View.{viewOf};
+ghost use Rattle.region.specs.View.{viewOf, withFlag};
 ghost use Rattle.region.specs.Region.{controlAt, flagOf, buildOf, containsOf};
 ghost use Rattle.region.specs.Poles.{stepOf, basicOf};
 use coo3d::Coo3D;
@@ -194,7 +194,31 @@ pub fn refused(cause: Cause) -> Built
     }
 }
 
-// Upstream: `Polygon::new_custom_vec3`. The corners are checked and the normals worked out in the region itself, so that no array is copied on the way.
+// The region with this flag.
+fn made(r: Region, flag: bool) -> Built
+    ensures { λ b. ⌜ outcomeOf (b .outcome) (viewOf (b .region)) ≡ answered (withFlag (viewOf r) flag) ⌝ }
+{
+    let mut region = r;
+    region.contains_south_pole = flag;
+    Built {
+        region,
+        outcome: Outcome::Done,
+    }
+}
+
+// The region with the flag that was decided.
+fn flagged(r: Region, flag: Decision) -> Built
+    ensures { λ b. ⌜ outcomeOf (b .outcome) (viewOf (b .region)) ≡ andThen (decisionAnswer flag) (λ f. answered (withFlag (viewOf r) f)) ⌝ }
+{
+    match flag {
+        Decision::Yes => made(r, true),
+        Decision::No => made(r, false),
+        Decision::Refused(cause) => refused(cause),
+    }
+}
+
+// Upstream: `Polygon::new_custom_vec3`. The corners are checked and all is worked out in the region itself, and `Basic`'s sums beside the normals, so
+// that no array is copied on the way.
 pub fn build(points: [Coo3D; 64], count: usize, method: ContainsSouthPoleMethod) -> Built
     ensures { λ b. ⌜ outcomeOf (b .outcome) (viewOf (b .region)) ≡ buildOf points count method ⌝ }
 {
@@ -226,26 +250,29 @@ pub fn build(points: [Coo3D; 64], count: usize, method: ContainsSouthPoleMethod)
     }
     let last = count - 1;
     let mut from = region.vertices[last];
+    let mut sum_lon = 0.0;
+    let mut sum_z = 0.0;
     let mut k: usize = 0;
     while k < count {
         let to = region.vertices[k];
         let n = edge_normal(from, to);
         region.cross_products[k] = n;
+        sum_lon = add_step(sum_lon, to.lon - from.lon);
+        sum_z = sum_z + to.z;
         from = to;
         k += 1;
     }
-    match contains_south_pole(region, method) {
-        Decision::Refused(cause) => refused(cause),
-        Decision::No => Built {
-            region,
-            outcome: Outcome::Done,
-        },
-        Decision::Yes => {
-            region.contains_south_pole = true;
-            Built {
-                region,
-                outcome: Outcome::Done,
-            }
+    let is_basic = (float::abs(sum_lon) > float::PI) & (sum_z < 0.0);
+    match method {
+        ContainsSouthPoleMethod::Default => made(region, is_basic),
+        ContainsSouthPoleMethod::DefaultComplement => made(region, !is_basic),
+        ContainsSouthPoleMethod::ContainsSouthPole => made(region, true),
+        ContainsSouthPoleMethod::DoNotContainsSouthPole => made(region, false),
+        ContainsSouthPoleMethod::ControlPointIn(p) => {
+            flagged(region, flag_for_control_point(region, p, true))
+        }
+        ContainsSouthPoleMethod::ControlPointOut(p) => {
+            flagged(region, flag_for_control_point(region, p, false))
         }
     }
 }

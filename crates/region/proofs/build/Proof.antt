@@ -4,8 +4,8 @@ use mathlib.Core.Path.{_≡_, refl, sym, ap, _∙_}
 use lib.ListN.{length}
 use borrow.Author.Needs.{needs}
 use Rattle.domain.specs.Checks.{pointAnswer}
-use Rattle.refusal.specs.Answer.{decisionAnswer}
-use Rattle.region.proofs.Building.{Checking, checking-starts, checking-good, checking-bad, Working, working-starts, working-turn, passed-on, no-points, many-points, ends, as-clear}
+use Rattle.region.specs.Region.{buildOf}
+use Rattle.region.proofs.Building.{Checking, checking-starts, checking-good, checking-bad, Working, working-starts, working-turn, passed-on, no-points, many-points, basic-is, in-range, by-default, by-complement, by-set, by-clear, by-in, by-out}
 use Rattle.region.proofs.build.Statement.{statement}
 use Rattle.region.proofs.build.Tie as tie
 
@@ -16,10 +16,10 @@ abbrev μ-loop : tie.MeasureT-loop
 μ-loop count method points region₀ i₀ region i = count - i
 
 abbrev Inv-loop2 : tie.InvT-loop2
-Inv-loop2 count method region₀ i last from₀ k₀ region from k = Working (region₀ .vertices) count region from k
+Inv-loop2 count method region₀ i last from₀ sum-lon₀ sum-z₀ k₀ region from sum-lon sum-z k = Working (region₀ .vertices) count region from sum-lon sum-z k
 
 abbrev μ-loop2 : tie.MeasureT-loop2
-μ-loop2 count method region₀ i last from₀ k₀ region from k = count - k
+μ-loop2 count method region₀ i last from₀ sum-lon₀ sum-z₀ k₀ region from sum-lon sum-z k = count - k
 
 refused-requires : tie.Need-refused-requires Inv-loop μ-loop Inv-loop2 μ-loop2
 refused-requires c κs = search needs
@@ -107,6 +107,9 @@ mul-n c = search needs
 element-set-from-n : tie.Need-element-set-from-n Inv-loop μ-loop Inv-loop2 μ-loop2
 element-set-from-n c = search needs
 
+add-step-requires : tie.Need-add-step-requires Inv-loop μ-loop Inv-loop2 μ-loop2
+add-step-requires c κs = search needs
+
 add-k : tie.Need-add-k Inv-loop μ-loop Inv-loop2 μ-loop2
 add-k c = search needs
 
@@ -114,38 +117,90 @@ loop2-less : tie.Need-loop2-less Inv-loop μ-loop Inv-loop2 μ-loop2
 loop2-less c = search needs
 
 loop2-again : tie.Need-loop2-again Inv-loop μ-loop Inv-loop2 μ-loop2
-loop2-again c = working-turn (c .before .before .before .loop2 .inv) (c .before .before .before .before .before .before .loop .inv .corners) (c .before .before .before .before .before .before .before .if2 .left) (c .before .before .loop2-test .taken) _ (c .edge-normal .ensures)
+loop2-again c = working-turn (c .before .before .before .before .before .before .before .loop2 .inv) (c .before .before .before .before .before .before .before .before .before .before .loop .inv .corners) (c .before .before .before .before .before .before .before .before .before .before .before .if2 .left) (c .before .before .before .before .before .before .loop2-test .taken) _ (c .before .before .before .before .edge-normal .ensures) _ (c .before .add-step .ensures)
 
-contains-south-pole-requires :
-    tie.Need-contains-south-pole-requires Inv-loop μ-loop Inv-loop2 μ-loop2
-contains-south-pole-requires c κs = search needs
-
-enum-known-cause : tie.Need-enum-known-cause Inv-loop μ-loop Inv-loop2 μ-loop2
-enum-known-cause c = search needs
-
-refused-requires-4 : tie.Need-refused-requires-4 Inv-loop μ-loop Inv-loop2 μ-loop2
-refused-requires-4 c κs = search needs
+abs-requires : tie.Need-abs-requires Inv-loop μ-loop Inv-loop2 μ-loop2
+abs-requires c κs = search needs
 
 enum-told-2 : tie.Need-enum-told-2 Inv-loop μ-loop Inv-loop2 μ-loop2
 enum-told-2 c = search needs
 
+made-requires : tie.Need-made-requires Inv-loop μ-loop Inv-loop2 μ-loop2
+made-requires c κs = search needs
+
 enum-told-3 : tie.Need-enum-told-3 Inv-loop μ-loop Inv-loop2 μ-loop2
 enum-told-3 c = search needs
 
+made-requires-2 : tie.Need-made-requires-2 Inv-loop μ-loop Inv-loop2 μ-loop2
+made-requires-2 c κs = search needs
+
+enum-told-4 : tie.Need-enum-told-4 Inv-loop μ-loop Inv-loop2 μ-loop2
+enum-told-4 c = search needs
+
+made-requires-3 : tie.Need-made-requires-3 Inv-loop μ-loop Inv-loop2 μ-loop2
+made-requires-3 c κs = search needs
+
+enum-told-5 : tie.Need-enum-told-5 Inv-loop μ-loop Inv-loop2 μ-loop2
+enum-told-5 c = search needs
+
+made-requires-4 : tie.Need-made-requires-4 Inv-loop μ-loop Inv-loop2 μ-loop2
+made-requires-4 c κs = search needs
+
+enum-known-method : tie.Need-enum-known-method Inv-loop μ-loop Inv-loop2 μ-loop2
+enum-known-method c = search needs
+
+flag-for-control-point-requires :
+    tie.Need-flag-for-control-point-requires Inv-loop μ-loop Inv-loop2 μ-loop2
+flag-for-control-point-requires c κs = let e : length (c .before .before .before .before .before .before .before .before .before .before .before .args .t1) ≡ 64 = search needs in in-range (c .before .before .before .before .before .before .before .before .loop .inv) (c .before .before .before .before .before .loop2 .inv) e (c .before .before .before .before .before .before .before .before .before .before .if1 .left) (c .before .before .before .before .before .before .before .before .before .if2 .left) (c .before .before .before .before .before .before .before .loop-test .left) (c .before .before .before .before .loop2-test .left)
+
+flagged-requires : tie.Need-flagged-requires Inv-loop μ-loop Inv-loop2 μ-loop2
+flagged-requires c κs = search needs
+
+enum-known-method-2 : tie.Need-enum-known-method-2 Inv-loop μ-loop Inv-loop2 μ-loop2
+enum-known-method-2 c = search needs
+
+flag-for-control-point-requires-2 :
+    tie.Need-flag-for-control-point-requires-2 Inv-loop μ-loop Inv-loop2 μ-loop2
+flag-for-control-point-requires-2 c κs = let e : length (c .before .before .before .before .before .before .before .before .before .before .before .args .t1) ≡ 64 = search needs in in-range (c .before .before .before .before .before .before .before .before .loop .inv) (c .before .before .before .before .before .loop2 .inv) e (c .before .before .before .before .before .before .before .before .before .before .if1 .left) (c .before .before .before .before .before .before .before .before .before .if2 .left) (c .before .before .before .before .before .before .before .loop-test .left) (c .before .before .before .before .loop2-test .left)
+
+flagged-requires-2 : tie.Need-flagged-requires-2 Inv-loop μ-loop Inv-loop2 μ-loop2
+flagged-requires-2 c κs = search needs
+
 returns-4 : tie.Need-returns-4 Inv-loop μ-loop Inv-loop2 μ-loop2
 returns-4 c =
-    let e : length (c .before .before .before .before .before .before .before .before .before .before .before .before .args .t1) ≡ 64 = search needs in
-    c .refused4 .ensures ∙ ends (c .before .before .before .before .before .before .before .before .before .loop .inv) (c .before .before .before .before .before .before .loop2 .inv) e (c .before .before .before .before .before .before .before .before .before .before .before .if1 .left) (c .before .before .before .before .before .before .before .before .before .before .if2 .left) (c .before .before .before .before .before .before .before .before .loop-test .left) (c .before .before .before .before .before .loop2-test .left) _ _ (c .before .before .before .before .contains-south-pole .ensures) _ (ap decisionAnswer (c .before .before .cause .given .1))
+    let a = c .before .before .before .before .before .before .before .before .before .before .before .args in
+    let e : length (a .t1) ≡ 64 = search needs in
+    c .made .ensures ∙ by-default (c .before .before .before .before .before .before .before .before .loop .inv) (c .before .before .before .before .before .loop2 .inv) e (c .before .before .before .before .before .before .before .before .before .before .if1 .left) (c .before .before .before .before .before .before .before .before .before .if2 .left) (c .before .before .before .before .before .before .before .loop-test .left) (c .before .before .before .before .loop2-test .left) _ (basic-is (c .before .before .before .before .before .before .before .before .loop .inv) (c .before .before .before .before .before .loop2 .inv) e (c .before .before .before .before .before .before .before .before .before .before .if1 .left) (c .before .before .before .before .before .before .before .before .before .if2 .left) (c .before .before .before .before .before .before .before .loop-test .left) (c .before .before .before .before .loop2-test .left) _ (c .before .before .before .abs .ensures)) ∙ ap (buildOf (a .t1) (a .count)) (sym (c .before .enum-told2 .given .1))
 
 returns-5 : tie.Need-returns-5 Inv-loop μ-loop Inv-loop2 μ-loop2
 returns-5 c =
-    let e : length (c .before .before .before .before .before .before .before .before .before .before .args .t1) ≡ 64 = search needs in
-    as-clear (c .before .before .before .before .before .before .before .loop .inv) (c .before .before .before .before .loop2 .inv) ∙ ends (c .before .before .before .before .before .before .before .loop .inv) (c .before .before .before .before .loop2 .inv) e (c .before .before .before .before .before .before .before .before .before .if1 .left) (c .before .before .before .before .before .before .before .before .if2 .left) (c .before .before .before .before .before .before .loop-test .left) (c .before .before .before .loop2-test .left) _ _ (c .before .before .contains-south-pole .ensures) _ (ap decisionAnswer (c .enum-told2 .given .1))
+    let a = c .before .before .before .before .before .before .before .before .before .before .before .args in
+    let e : length (a .t1) ≡ 64 = search needs in
+    c .made2 .ensures ∙ by-complement (c .before .before .before .before .before .before .before .before .loop .inv) (c .before .before .before .before .before .loop2 .inv) e (c .before .before .before .before .before .before .before .before .before .before .if1 .left) (c .before .before .before .before .before .before .before .before .before .if2 .left) (c .before .before .before .before .before .before .before .loop-test .left) (c .before .before .before .before .loop2-test .left) _ (basic-is (c .before .before .before .before .before .before .before .before .loop .inv) (c .before .before .before .before .before .loop2 .inv) e (c .before .before .before .before .before .before .before .before .before .before .if1 .left) (c .before .before .before .before .before .before .before .before .before .if2 .left) (c .before .before .before .before .before .before .before .loop-test .left) (c .before .before .before .before .loop2-test .left) _ (c .before .before .before .abs .ensures)) ∙ ap (buildOf (a .t1) (a .count)) (sym (c .before .enum-told3 .given .1))
 
 returns-6 : tie.Need-returns-6 Inv-loop μ-loop Inv-loop2 μ-loop2
 returns-6 c =
-    let e : length (c .before .before .before .before .before .before .before .before .before .before .args .t1) ≡ 64 = search needs in
-    ends (c .before .before .before .before .before .before .before .loop .inv) (c .before .before .before .before .loop2 .inv) e (c .before .before .before .before .before .before .before .before .before .if1 .left) (c .before .before .before .before .before .before .before .before .if2 .left) (c .before .before .before .before .before .before .loop-test .left) (c .before .before .before .loop2-test .left) _ _ (c .before .before .contains-south-pole .ensures) _ (ap decisionAnswer (c .enum-told3 .given .1))
+    let a = c .before .before .before .before .before .before .before .before .before .before .before .args in
+    let e : length (a .t1) ≡ 64 = search needs in
+    c .made3 .ensures ∙ by-set (c .before .before .before .before .before .before .before .before .loop .inv) (c .before .before .before .before .before .loop2 .inv) e (c .before .before .before .before .before .before .before .before .before .before .if1 .left) (c .before .before .before .before .before .before .before .before .before .if2 .left) (c .before .before .before .before .before .before .before .loop-test .left) (c .before .before .before .before .loop2-test .left) ∙ ap (buildOf (a .t1) (a .count)) (sym (c .before .enum-told4 .given .1))
+
+returns-7 : tie.Need-returns-7 Inv-loop μ-loop Inv-loop2 μ-loop2
+returns-7 c =
+    let a = c .before .before .before .before .before .before .before .before .before .before .before .args in
+    let e : length (a .t1) ≡ 64 = search needs in
+    c .made4 .ensures ∙ by-clear (c .before .before .before .before .before .before .before .before .loop .inv) (c .before .before .before .before .before .loop2 .inv) e (c .before .before .before .before .before .before .before .before .before .before .if1 .left) (c .before .before .before .before .before .before .before .before .before .if2 .left) (c .before .before .before .before .before .before .before .loop-test .left) (c .before .before .before .before .loop2-test .left) ∙ ap (buildOf (a .t1) (a .count)) (sym (c .before .enum-told5 .given .1))
+
+returns-8 : tie.Need-returns-8 Inv-loop μ-loop Inv-loop2 μ-loop2
+returns-8 c =
+    let a = c .before .before .before .before .before .before .before .before .before .before .before .before .before .args in
+    let e : length (a .t1) ≡ 64 = search needs in
+    c .flagged .ensures ∙ by-in (c .before .before .before .before .before .before .before .before .before .before .loop .inv) (c .before .before .before .before .before .before .before .loop2 .inv) e (c .before .before .before .before .before .before .before .before .before .before .before .before .if1 .left) (c .before .before .before .before .before .before .before .before .before .before .before .if2 .left) (c .before .before .before .before .before .before .before .before .before .loop-test .left) (c .before .before .before .before .before .before .loop2-test .left) _ _ (c .before .flag-for-control-point .ensures) ∙ ap (buildOf (a .t1) (a .count)) (sym (c .before .before .before .method .given .1))
+
+returns-9 : tie.Need-returns-9 Inv-loop μ-loop Inv-loop2 μ-loop2
+returns-9 c =
+    let a = c .before .before .before .before .before .before .before .before .before .before .before .before .before .args in
+    let e : length (a .t1) ≡ 64 = search needs in
+    c .flagged2 .ensures ∙ by-out (c .before .before .before .before .before .before .before .before .before .before .loop .inv) (c .before .before .before .before .before .before .before .loop2 .inv) e (c .before .before .before .before .before .before .before .before .before .before .before .before .if1 .left) (c .before .before .before .before .before .before .before .before .before .before .before .if2 .left) (c .before .before .before .before .before .before .before .before .before .loop-test .left) (c .before .before .before .before .before .before .loop2-test .left) _ _ (c .before .flag-for-control-point2 .ensures) ∙ ap (buildOf (a .t1) (a .count)) (sym (c .before .before .before .method2 .given .1))
 
 pub build-spec : {M : Type 1} → statement M
 build-spec =
@@ -181,14 +236,28 @@ build-spec =
     edge-normal-requires
     mul-n
     element-set-from-n
+    add-step-requires
     add-k
     loop2-less
     loop2-again
-    contains-south-pole-requires
-    enum-known-cause
-    refused-requires-4
+    abs-requires
     enum-told-2
+    made-requires
     enum-told-3
+    made-requires-2
+    enum-told-4
+    made-requires-3
+    enum-told-5
+    made-requires-4
+    enum-known-method
+    flag-for-control-point-requires
+    flagged-requires
+    enum-known-method-2
+    flag-for-control-point-requires-2
+    flagged-requires-2
     returns-4
     returns-5
-    returns-6)
+    returns-6
+    returns-7
+    returns-8
+    returns-9)
