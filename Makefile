@@ -6,7 +6,7 @@ SEED ?= 1
 COUNT ?= 200000
 LISTS ?= 10000
 
-.PHONY: help setup setup-c demo lib test doors differential lists fixed-list
+.PHONY: help setup setup-c demo lib test doors differential lists fixed-list bench
 
 help:
 	@echo 'make demo          runs the example: makes a region file and asks the C doors who is inside'
@@ -15,6 +15,7 @@ help:
 	@echo 'make doors         the C tests alone'
 	@echo 'make differential  SEED=n COUNT=n: compares that many requests with upstream'
 	@echo 'make lists         SEED=n LISTS=n: compares that many lists of 1 to 200 edits with upstream'
+	@echo 'make bench         measures the calls beside upstream and writes docs/BENCHMARKS.md; no test'
 	@echo 'make fixed-list    makes the fixed list of crates/replay anew from upstream'
 	@echo 'make setup         installs what is missing, by package name'
 
@@ -49,3 +50,6 @@ lists: setup
 
 fixed-list: setup
 	@tests/fixed-list '$(UPSTREAM)'
+
+bench:
+	@bench/run '$(UPSTREAM)'
