@@ -20,8 +20,11 @@ pub enum Outline {
     Small,
 }
 
-pub const OUTLINES: [(Outline, &str); 3] =
-    [(Outline::Pole, "round the south pole"), (Outline::Seam, "across the seam"), (Outline::Small, "small")];
+pub const OUTLINES: [(Outline, &str); 3] = [
+    (Outline::Pole, "round the south pole"),
+    (Outline::Seam, "across the seam"),
+    (Outline::Small, "small"),
+];
 
 /// A stream of numbers that is the same in every run (splitmix64).
 pub struct Draw(pub u64);
@@ -42,17 +45,33 @@ impl Draw {
 type Vector = [f64; 3];
 
 fn at(lon: f64, lat: f64) -> [f64; 5] {
-    [lat.cos() * lon.cos(), lat.cos() * lon.sin(), lat.sin(), lon, lat]
+    [
+        lat.cos() * lon.cos(),
+        lat.cos() * lon.sin(),
+        lat.sin(),
+        lon,
+        lat,
+    ]
 }
 
 fn of([x, y, z]: Vector) -> [f64; 5] {
     let lon = y.atan2(x);
     let lat = z.clamp(-1.0, 1.0).asin();
-    [x, y, z, if lon < 0.0 { (lon + TAU).min(TAU) } else { lon }, lat]
+    [
+        x,
+        y,
+        z,
+        if lon < 0.0 { (lon + TAU).min(TAU) } else { lon },
+        lat,
+    ]
 }
 
 fn cross(a: &[f64], b: &[f64]) -> Vector {
-    [a[1] * b[2] - a[2] * b[1], a[2] * b[0] - a[0] * b[2], a[0] * b[1] - a[1] * b[0]]
+    [
+        a[1] * b[2] - a[2] * b[1],
+        a[2] * b[0] - a[0] * b[2],
+        a[0] * b[1] - a[1] * b[0],
+    ]
 }
 
 fn unit(v: Vector) -> Vector {
@@ -90,6 +109,23 @@ impl Outline {
     }
 }
 
+/// The polygon's fields.
+pub fn region_of(polygon: &Polygon) -> Region {
+    Region {
+        corners: polygon
+            .vertices
+            .iter()
+            .flat_map(|c| [c.x, c.y, c.z, c.lon, c.lat])
+            .collect(),
+        normals: polygon
+            .cross_products
+            .iter()
+            .flat_map(|n| [n.x(), n.y(), n.z()])
+            .collect(),
+        flag: polygon.contains_south_pole.into(),
+    }
+}
+
 /// A region with what it is asked, flat.
 pub struct Case {
     pub polygon: Polygon,
@@ -110,10 +146,12 @@ pub struct Case {
 pub fn case(outline: Outline, count: usize) -> Case {
     let mut draw = Draw(count as u64);
     let part = |k: usize| (k % count) as f64 / count as f64 + 0.003;
-    let corners: Vec<f64> = (0..count).flat_map(|k| outline.corner(part(k), &mut draw)).collect();
-    let polygon = Polygon::new_custom_vec3(points(&corners).into(), &ContainsSouthPoleMethod::Default);
-    let normals = polygon.cross_products.iter().flat_map(|n| [n.x(), n.y(), n.z()]).collect();
-    let flag = polygon.contains_south_pole.into();
+    let corners: Vec<f64> = (0..count)
+        .flat_map(|k| outline.corner(part(k), &mut draw))
+        .collect();
+    let polygon =
+        Polygon::new_custom_vec3(points(&corners).into(), &ContainsSouthPoleMethod::Default);
+    let region = region_of(&polygon);
     let mut many = |make: &mut dyn FnMut(usize, &mut Draw) -> Vec<f64>| -> Vec<f64> {
         (0..ENTRIES).flat_map(|i| make(i, &mut draw)).collect()
     };
@@ -123,13 +161,23 @@ pub fn case(outline: Outline, count: usize) -> Case {
         0 => outline.near(draw).to_vec(),
         _ => at(draw.between(0.0, TAU), draw.between(-1.0f64, 1.0).asin()).to_vec(),
     });
-    let circles = many(&mut |_, draw| unit(cross(&outline.near(draw), &outline.near(draw))).to_vec());
+    let circles =
+        many(&mut |_, draw| unit(cross(&outline.near(draw), &outline.near(draw))).to_vec());
     let parallels = many(&mut |_, draw| {
         let lat = outline.near(draw)[4];
         vec![lat, lat.sin(), lat.cos()]
     });
     let moved = many(&mut |i, draw| outline.corner(part(i), draw).to_vec());
-    Case { polygon, region: Region { corners, normals, flag }, points, near, ends, circles, parallels, moved }
+    Case {
+        polygon,
+        region,
+        points,
+        near,
+        ends,
+        circles,
+        parallels,
+        moved,
+    }
 }
 
 /// The file of a region with one corner moved.
@@ -142,7 +190,11 @@ pub fn files(case: &Case, number: usize) -> (Vec<u8>, usize) {
         let k = 5 * (i % count);
         corners[k..k + 5].copy_from_slice(&case.moved[k..k + 5]);
         all.extend(corners.iter().flat_map(|x| x.to_le_bytes()));
-        all.extend([1, case.region.flag as u32, count as u32, len as u32].iter().flat_map(|n| n.to_le_bytes()));
+        all.extend(
+            [1, case.region.flag as u32, count as u32, len as u32]
+                .iter()
+                .flat_map(|n| n.to_le_bytes()),
+        );
     }
     (all, len)
 }
@@ -153,7 +205,13 @@ pub fn zones() -> Vec<f64> {
     (0..ENTRIES)
         .flat_map(|_| {
             let (south, north) = (draw.between(-1.5, 0.0), draw.between(0.1, 1.5));
-            [draw.between(0.0, 6.2), south, draw.between(0.1, 6.2), north, 0.0]
+            [
+                draw.between(0.0, 6.2),
+                south,
+                draw.between(0.1, 6.2),
+                north,
+                0.0,
+            ]
         })
         .collect()
 }
@@ -166,5 +224,7 @@ pub fn zone_triples() -> Vec<f64> {
 /// Of many sizes.
 pub fn radicands() -> Vec<f64> {
     let mut draw = Draw(3);
-    (0..ENTRIES).map(|_| draw.between(-40.0, 40.0).exp2()).collect()
+    (0..ENTRIES)
+        .map(|_| draw.between(-40.0, 40.0).exp2())
+        .collect()
 }

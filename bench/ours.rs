@@ -9,19 +9,29 @@ macro_rules! exported {
 }
 
 exported!((corners: Doubles, m: usize, normals: Doubles, n: usize, flag: u64, entries: Doubles, k: usize):
-    bench_nothing bench_contains bench_circle_all bench_parallel_first bench_parallel_all bench_put bench_insert bench_hold);
+    bench_idle_region bench_contains bench_circle_all bench_parallel_first bench_parallel_all bench_put bench_insert bench_hold);
 exported!((corners: Doubles, m: usize, normals: Doubles, n: usize, flag: u64, starts: Doubles, k: usize, ends: Doubles, l: usize):
     bench_arc_first bench_arc_all);
 exported!((corners: Doubles, m: usize, normals: Doubles, n: usize, flag: u64, times: usize): bench_remove bench_turn);
 exported!((corners: Doubles, m: usize, normals: Doubles, n: usize, flag: u64, rule: u64, entries: Doubles, k: usize): bench_rule);
 exported!((corners: Doubles, m: usize, normals: Doubles, n: usize, flag: u64, entries: Doubles, k: usize, out: *mut u8, l: usize):
     bench_write);
-exported!((a: Doubles, m: usize, b: Doubles, n: usize): bench_build bench_cone bench_zone_questions);
+exported!((a: Doubles, m: usize, b: Doubles, n: usize): bench_idle_corners bench_build bench_cone bench_zone_questions);
 exported!((a: Doubles, m: usize): bench_root bench_root_chain bench_zone_new);
 exported!((files: *const u8, m: usize, len: usize, times: usize): bench_read);
 
 extern "C" {
-    fn jigwandor_contains(file: *const u8, len: usize, x: f64, y: f64, z: f64, lon: f64, lat: f64) -> u32;
+    fn jigwandor_contains(
+        file: *const u8,
+        len: usize,
+        x: f64,
+        y: f64,
+        z: f64,
+        lon: f64,
+        lat: f64,
+    ) -> u32;
+    fn jigwandor_hold(file: *mut u8, len: usize, x: f64, y: f64, z: f64, lon: f64, lat: f64)
+        -> u32;
 }
 
 /// A region by its fields.
@@ -32,7 +42,17 @@ pub struct Region {
 }
 
 type OnEntries = unsafe extern "C" fn(Doubles, usize, Doubles, usize, u64, Doubles, usize) -> u64;
-type OnArcs = unsafe extern "C" fn(Doubles, usize, Doubles, usize, u64, Doubles, usize, Doubles, usize) -> u64;
+type OnArcs = unsafe extern "C" fn(
+    Doubles,
+    usize,
+    Doubles,
+    usize,
+    u64,
+    Doubles,
+    usize,
+    Doubles,
+    usize,
+) -> u64;
 type Repeated = unsafe extern "C" fn(Doubles, usize, Doubles, usize, u64, usize) -> u64;
 type OnTwo = unsafe extern "C" fn(Doubles, usize, Doubles, usize) -> u64;
 type OnOne = unsafe extern "C" fn(Doubles, usize) -> u64;
@@ -40,13 +60,33 @@ type OnOne = unsafe extern "C" fn(Doubles, usize) -> u64;
 impl Region {
     pub fn entries(&self, f: OnEntries, entries: &[f64]) -> u64 {
         let (c, n) = (&self.corners, &self.normals);
-        unsafe { f(c.as_ptr(), c.len(), n.as_ptr(), n.len(), self.flag, entries.as_ptr(), entries.len()) }
+        unsafe {
+            f(
+                c.as_ptr(),
+                c.len(),
+                n.as_ptr(),
+                n.len(),
+                self.flag,
+                entries.as_ptr(),
+                entries.len(),
+            )
+        }
     }
 
     pub fn arcs(&self, f: OnArcs, starts: &[f64], ends: &[f64]) -> u64 {
         let (c, n) = (&self.corners, &self.normals);
         unsafe {
-            f(c.as_ptr(), c.len(), n.as_ptr(), n.len(), self.flag, starts.as_ptr(), starts.len(), ends.as_ptr(), ends.len())
+            f(
+                c.as_ptr(),
+                c.len(),
+                n.as_ptr(),
+                n.len(),
+                self.flag,
+                starts.as_ptr(),
+                starts.len(),
+                ends.as_ptr(),
+                ends.len(),
+            )
         }
     }
 
@@ -57,7 +97,18 @@ impl Region {
 
     pub fn rule(&self, rule: u64, entries: &[f64]) -> u64 {
         let (c, n) = (&self.corners, &self.normals);
-        unsafe { bench_rule(c.as_ptr(), c.len(), n.as_ptr(), n.len(), self.flag, rule, entries.as_ptr(), entries.len()) }
+        unsafe {
+            bench_rule(
+                c.as_ptr(),
+                c.len(),
+                n.as_ptr(),
+                n.len(),
+                self.flag,
+                rule,
+                entries.as_ptr(),
+                entries.len(),
+            )
+        }
     }
 
     pub fn write(&self, entries: &[f64], out: &mut [u8]) -> u64 {
@@ -90,7 +141,10 @@ pub fn read(files: &[u8], len: usize, times: usize) -> u64 {
     unsafe { bench_read(files.as_ptr(), files.len(), len, times) }
 }
 
-#[inline]
 pub fn door_contains(file: &[u8], p: &[f64]) -> u32 {
     unsafe { jigwandor_contains(file.as_ptr(), file.len(), p[0], p[1], p[2], p[3], p[4]) }
+}
+
+pub fn door_hold(file: &mut [u8], p: &[f64]) -> u32 {
+    unsafe { jigwandor_hold(file.as_mut_ptr(), file.len(), p[0], p[1], p[2], p[3], p[4]) }
 }

@@ -17,7 +17,14 @@ pub fn mix(sum: u64, x: u64) -> u64 {
 
 #[inline]
 fn mix_double(sum: u64, x: f64) -> u64 {
-    mix(sum, if x.is_nan() { 0x7ff8_0000_0000_0000 } else { x.to_bits() })
+    mix(
+        sum,
+        if x.is_nan() {
+            0x7ff8_0000_0000_0000
+        } else {
+            x.to_bits()
+        },
+    )
 }
 
 #[inline]
@@ -27,7 +34,13 @@ fn mix_vector<V: Vec3>(sum: u64, v: &V) -> u64 {
 
 #[inline]
 pub fn point(p: &[f64]) -> Coo3D {
-    Coo3D { x: p[0], y: p[1], z: p[2], lon: p[3], lat: p[4] }
+    Coo3D {
+        x: p[0],
+        y: p[1],
+        z: p[2],
+        lon: p[3],
+        lat: p[4],
+    }
 }
 
 pub fn points(words: &[f64]) -> Vec<Coo3D> {
@@ -45,7 +58,9 @@ fn next(k: usize, count: usize) -> usize {
 
 #[inline(never)]
 pub fn contains(polygon: &Polygon, points: &[f64]) -> u64 {
-    points.chunks_exact(5).fold(0, |sum, p| mix(sum, polygon.contains(&point(p)).into()))
+    points
+        .chunks_exact(5)
+        .fold(0, |sum, p| mix(sum, polygon.contains(&point(p)).into()))
 }
 
 #[inline]
@@ -64,35 +79,55 @@ fn mix_all(sum: u64, all: Vec<UnitVect3>) -> u64 {
 #[inline(never)]
 pub fn arc_first(polygon: &Polygon, starts: &[f64], ends: &[f64]) -> u64 {
     let arcs = starts.chunks_exact(5).zip(ends.chunks_exact(5));
-    arcs.fold(0, |sum, (a, b)| mix_first(sum, polygon.intersect_great_circle_arc(&point(a), &point(b))))
+    arcs.fold(0, |sum, (a, b)| {
+        mix_first(
+            sum,
+            polygon.intersect_great_circle_arc(&point(a), &point(b)),
+        )
+    })
 }
 
 #[inline(never)]
 pub fn arc_all(polygon: &Polygon, starts: &[f64], ends: &[f64]) -> u64 {
     let arcs = starts.chunks_exact(5).zip(ends.chunks_exact(5));
-    arcs.fold(0, |sum, (a, b)| mix_all(sum, polygon.intersect_great_circle_arc_all(&point(a), &point(b))))
+    arcs.fold(0, |sum, (a, b)| {
+        mix_all(
+            sum,
+            polygon.intersect_great_circle_arc_all(&point(a), &point(b)),
+        )
+    })
 }
 
 #[inline(never)]
 pub fn circle_all(polygon: &Polygon, triples: &[f64]) -> u64 {
     triples.chunks_exact(3).fold(0, |sum, t| {
-        mix_all(sum, polygon.intersect_great_circle_all(&UnitVect3::new_unsafe(t[0], t[1], t[2])))
+        mix_all(
+            sum,
+            polygon.intersect_great_circle_all(&UnitVect3::new_unsafe(t[0], t[1], t[2])),
+        )
     })
 }
 
 #[inline(never)]
 pub fn parallel_first(polygon: &Polygon, triples: &[f64]) -> u64 {
-    triples.chunks_exact(3).fold(0, |sum, t| mix_first(sum, polygon.intersect_parallel(t[0], t[1], t[2])))
+    triples.chunks_exact(3).fold(0, |sum, t| {
+        mix_first(sum, polygon.intersect_parallel(t[0], t[1], t[2]))
+    })
 }
 
 #[inline(never)]
 pub fn parallel_all(polygon: &Polygon, triples: &[f64]) -> u64 {
-    triples.chunks_exact(3).fold(0, |sum, t| mix_all(sum, polygon.intersect_parallel_all(t[0], t[1], t[2])))
+    triples.chunks_exact(3).fold(0, |sum, t| {
+        mix_all(sum, polygon.intersect_parallel_all(t[0], t[1], t[2]))
+    })
 }
 
 #[inline]
 fn mix_polygon(sum: u64, polygon: &Polygon, k: usize) -> u64 {
-    mix_vector(mix(mix(sum, 0), polygon.contains_south_pole.into()), &polygon.cross_products[k])
+    mix_vector(
+        mix(mix(sum, 0), polygon.contains_south_pole.into()),
+        &polygon.cross_products[k],
+    )
 }
 
 #[inline(never)]
@@ -100,7 +135,8 @@ pub fn build(corners: &[f64], entries: &[f64]) -> u64 {
     let (mut given, mut k) = (points(corners), 0);
     entries.chunks_exact(5).fold(0, |sum, p| {
         given[k] = point(p);
-        let polygon = Polygon::new_custom_vec3(given.clone().into(), &ContainsSouthPoleMethod::Default);
+        let polygon =
+            Polygon::new_custom_vec3(given.clone().into(), &ContainsSouthPoleMethod::Default);
         let sum = mix_polygon(sum, &polygon, k);
         k = next(k, given.len());
         sum
@@ -214,8 +250,13 @@ fn is_legal(p: &Coo3D) -> bool {
 #[inline]
 fn polygon_of(file: &[u8]) -> Option<Polygon> {
     let trailer = file.len().checked_sub(TRAILER_BYTES)?;
-    let [edition, flag, count, distance] = [0, 4, 8, 12].map(|at| number(&file[trailer + at..trailer + at + 4]));
-    if edition != 1 || flag > 1 || !(1..=64).contains(&count) || distance != CORNER_BYTES * count + TRAILER_BYTES {
+    let [edition, flag, count, distance] =
+        [0, 4, 8, 12].map(|at| number(&file[trailer + at..trailer + at + 4]));
+    if edition != 1
+        || flag > 1
+        || !(1..=64).contains(&count)
+        || distance != CORNER_BYTES * count + TRAILER_BYTES
+    {
         return None;
     }
     let corners = &file[file.len().checked_sub(distance)?..trailer];
@@ -223,7 +264,13 @@ fn polygon_of(file: &[u8]) -> Option<Polygon> {
         .chunks_exact(CORNER_BYTES)
         .map(|bytes| {
             let double = |at: usize| f64::from_le_bytes(bytes[at..at + 8].try_into().unwrap());
-            Coo3D { x: double(0), y: double(8), z: double(16), lon: double(24), lat: double(32) }
+            Coo3D {
+                x: double(0),
+                y: double(8),
+                z: double(16),
+                lon: double(24),
+                lat: double(32),
+            }
         })
         .collect();
     corners.iter().all(is_legal).then(|| {
@@ -239,7 +286,11 @@ fn polygon_of(file: &[u8]) -> Option<Polygon> {
 pub fn read(files: &[u8], len: usize, times: usize) -> u64 {
     let (mut k, mut end) = (0, 0);
     (0..times).fold(0, |sum, _| {
-        end = if len <= files.len() - end { end + len } else { len };
+        end = if len <= files.len() - end {
+            end + len
+        } else {
+            len
+        };
         let polygon = polygon_of(&files[..end]).unwrap();
         let sum = mix_polygon(sum, &polygon, k);
         k = next(k, polygon.vertices.len());
@@ -252,11 +303,17 @@ fn write_file(corners: &[Coo3D], flag: bool, out: &mut [u8]) -> Option<usize> {
     let len = CORNER_BYTES * corners.len() + TRAILER_BYTES;
     let (front, trailer) = out.get_mut(..len)?.split_at_mut(len - TRAILER_BYTES);
     for (corner, bytes) in corners.iter().zip(front.chunks_exact_mut(CORNER_BYTES)) {
-        for (value, to) in [corner.x, corner.y, corner.z, corner.lon, corner.lat].iter().zip(bytes.chunks_exact_mut(8)) {
+        for (value, to) in [corner.x, corner.y, corner.z, corner.lon, corner.lat]
+            .iter()
+            .zip(bytes.chunks_exact_mut(8))
+        {
             to.copy_from_slice(&value.to_le_bytes());
         }
     }
-    for (value, to) in [1, flag as u32, corners.len() as u32, len as u32].iter().zip(trailer.chunks_exact_mut(4)) {
+    for (value, to) in [1, flag as u32, corners.len() as u32, len as u32]
+        .iter()
+        .zip(trailer.chunks_exact_mut(4))
+    {
         to.copy_from_slice(&value.to_le_bytes());
     }
     Some(len)
@@ -273,12 +330,27 @@ pub fn write(corners: &[f64], flag: bool, entries: &[f64], out: &mut [u8]) -> u6
     })
 }
 
+/// As the C doors do.
 #[inline(never)]
 pub fn door_contains(file: &[u8], entries: &[f64]) -> u64 {
     entries.chunks_exact(5).fold(0, |sum, p| {
         let p = point(p);
         let polygon = polygon_of(black_box(file)).unwrap();
         mix(sum, u64::from(is_legal(&p) && polygon.contains(&p)))
+    })
+}
+
+#[inline(never)]
+pub fn door_hold(file: &mut [u8], entries: &[f64]) -> u64 {
+    let flag_at = file.len() - 12;
+    entries.chunks_exact(5).fold(0, |sum, p| {
+        let p = point(p);
+        let polygon = polygon_of(black_box(&*file)).unwrap();
+        if is_legal(&p) {
+            let flag = polygon.contains_south_pole == polygon.contains(&p);
+            file[flag_at..flag_at + 4].copy_from_slice(&u32::from(flag).to_le_bytes());
+        }
+        mix(sum, file[flag_at].into())
     })
 }
 
@@ -291,7 +363,10 @@ pub fn root(values: &[f64]) -> u64 {
 
 #[inline(never)]
 pub fn root_chain(values: &[f64]) -> u64 {
-    values.iter().fold(1.0, |x: f64, y| (x + y).sqrt()).to_bits()
+    values
+        .iter()
+        .fold(1.0, |x: f64, y| (x + y).sqrt())
+        .to_bits()
 }
 
 #[inline(never)]

@@ -187,15 +187,16 @@ fn rule_of(number: u64, control_point: Coo3D) -> ContainsSouthPoleMethod {
     }
 }
 
-// What the loops do beside their calls.
+// What the loops over a region do beside their calls. Its entries are read, so that it is kept as theirs is.
 #[no_mangle]
-pub extern "C" fn bench_nothing(
+pub extern "C" fn bench_idle_region(
     corners: &[f64],
     normals: &[f64],
     flag: u64,
     points: &[f64],
 ) -> u64 {
     let region = region_of(corners, normals, flag);
+    let mut k: usize = 0;
     let mut sum: u64 = 0;
     let n = points.len() / 5;
     let mut i: usize = 0;
@@ -203,9 +204,33 @@ pub extern "C" fn bench_nothing(
         let at = i;
         i += 1;
         let p = point_at(points, at);
-        sum = mix_double(sum, p.x);
+        let q = region.vertices[k];
+        let v = region.cross_products[k];
+        sum = mix_double(mix_vector(sum, v), p.x + q.x);
+        k = next(k, region.count);
     }
-    mix(sum, region.count as u64)
+    mix(sum, region.contains_south_pole as u64)
+}
+
+// The same of those that hand points over.
+#[no_mangle]
+pub extern "C" fn bench_idle_corners(corners: &[f64], points: &[f64]) -> u64 {
+    let count = corners.len() / 5;
+    let mut given = corners_of(corners);
+    let mut k: usize = 0;
+    let mut sum: u64 = 0;
+    let n = points.len() / 5;
+    let mut i: usize = 0;
+    while i < n {
+        let at = i;
+        i += 1;
+        let p = point_at(points, at);
+        given[k] = p;
+        k = next(k, count);
+        let q = given[k];
+        sum = mix_double(sum, q.x);
+    }
+    sum
 }
 
 #[no_mangle]
