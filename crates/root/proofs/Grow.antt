@@ -35,6 +35,9 @@ at-most {n} {s} {r} {t} {q} h k = le-of-suc-le-suc (lt-of-not-le (λ (g : suc t 
 pub one-root : {n s r t q : ℕ} → IsRoot n s r → IsRoot n t q → s ≡ t
 one-root h k = le-antisymm (at-most h k) (at-most k h)
 
+pub same-root : {n s r s′ r′ : ℕ} → s′ ≡ s → r′ ≡ r → IsRoot n s r → IsRoot n s′ r′
+same-root {n} {s} {r} {s′} {r′} p q h = subst (λ (a : ℕ). IsRoot n a r′) (sym p) (subst (λ (a : ℕ). IsRoot n s a) (sym q) h)
+
 -- ---- powers
 
 pub pow-next : (b i : ℕ) → b ^ (i + 1) ≡ b * b ^ i

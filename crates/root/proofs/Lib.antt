@@ -1,5 +1,8 @@
 pub mod Grow
 pub mod Quotient
+pub mod Test
+pub mod Table
+pub mod Line
 pub mod Laws
 pub mod Units
 pub mod Bits

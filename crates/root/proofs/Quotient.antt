@@ -6,7 +6,7 @@ use native.Mathlib.Omega.{arith}
 use Rattle.root.specs.Whole.{IsRoot}
 use Rattle.root.proofs.Grow.{next-square, squares-mono}
 
-sum-square : (x q : ℕ) → (x + q) * (x + q) ≡ x * x + 2 * (x * q) + q * q
+pub sum-square : (x q : ℕ) → (x + q) * (x + q) ≡ x * x + 2 * (x * q) + q * q
 sum-square x q = add-mul x q (x + q) ∙ omega (arith, mul-add x x q, mul-add q x q, mul-comm q x)
 
 module _ (s r b m c q u : ℕ) (R : r ≤ 2 * s) (B : b ≤ 2 * s) (M : m < b) (C : c < b) (E : r * b + m ≡ q * (2 * s) + u) (U : u < 2 * s) where

@@ -3,8 +3,12 @@ use mathlib.Core.Path.{_≡_, sym, ap, _∙_, subst}
 use Prim.Native.Nat.{ℕ, _+_, _-_, _*_, _/_, _%_, _^_, _≤_, _<_}
 use native.Mathlib.Nat.{le-of-lt, lt-of-not-le, mul-comm, mul-assoc, mul-le-mul, mul-le-mul-right, div-add-mod', mod-lt}
 use native.Mathlib.Omega.{arith}
+use lib.Dec.{ltb}
+use mir.Val.{boolByte}
 use borrow.Author.Needs.{needs}
 use Rattle.root.specs.Whole.{IsRoot, Extends}
+use Rattle.root.proofs.Grow.{same-root}
+use Rattle.root.proofs.Test.{either-way}
 use Rattle.root.proofs.Quotient.{digit-le, digit-square, left-lt, fits-well, one-less}
 use Rattle.root.proofs.extend.Statement.{statement}
 use Rattle.root.proofs.extend.Tie as tie
@@ -41,9 +45,13 @@ module _ {S X m U c q Q : ℕ} (h : Bounds S X m U c q Q) where
   a7 : Q < 2 ^ 64
   a7 = omega arith
 
+  -- 1 where the quotient is one too large
+  abbrev bit : ℕ
+  bit = boolByte (ltb (U + c) Q)
+
   -- S is above 0
-  a8 : 1 ≤ S + q
-  a8 = omega arith
+  a8 : bit ≤ S + q
+  a8 = either-way (λ (o : ℕ). o ≤ S + q) (U + c) Q (λ (l : U + c < Q). omega arith) (λ (l : Q ≤ U + c). omega arith)
 
   a9 : (S + q) * 2 < 2 ^ 64
   a9 = omega arith
@@ -51,11 +59,15 @@ module _ {S X m U c q Q : ℕ} (h : Bounds S X m U c q Q) where
   a10 : 1 ≤ (S + q) * 2
   a10 = omega arith
 
-  a11 : U + c + ((S + q) * 2 - 1) < 2 ^ 64
-  a11 = omega arith
+  a11 : ((S + q) * 2 - 1) * bit < 2 ^ 64
+  a11 = either-way (λ (o : ℕ). ((S + q) * 2 - 1) * o < 2 ^ 64) (U + c) Q (λ (l : U + c < Q). omega arith) (λ (l : Q ≤ U + c). omega arith)
 
-  a12 : U + c < Q → Q ≤ U + c + ((S + q) * 2 - 1)
-  a12 l = omega (arith, h .some-digit (omega arith))
+  a12 : U + c + ((S + q) * 2 - 1) * bit < 2 ^ 64
+  a12 = either-way (λ (o : ℕ). U + c + ((S + q) * 2 - 1) * o < 2 ^ 64) (U + c) Q (λ (l : U + c < Q). omega arith) (λ (l : Q ≤ U + c). omega arith)
+
+  a13 : Q ≤ U + c + ((S + q) * 2 - 1) * bit
+  a13 =
+      either-way (λ (o : ℕ). Q ≤ U + c + ((S + q) * 2 - 1) * o) (U + c) Q (λ (l : U + c < Q). omega (arith, h .some-digit (omega arith))) (λ (l : Q ≤ U + c). omega arith)
 
 some-root : (q : ℕ) → 0 < q * q → 0 < q
 some-root q h = lt-of-not-le (λ (g : q ≤ 0). none (mul-le-mul g g))
@@ -112,6 +124,19 @@ module _ (s r b m c : ℕ) (h : Extends s r b m c) where
       → IsRoot ((s * s + r) * (b * b) + m * b + c) (s * b + quot s r b m - 1) (rest s r b m * b + c + ((s * b + quot s r b m) * 2 - 1) - quot s r b m * quot s r b m)
   less = one-less s r b m c (quot s r b m) (rest s r b m) (h .small) (h .base) (h .first) (h .second) splits rest-lt
 
+  -- 1 where the quotient is one too large
+  abbrev over : ℕ
+  over = boolByte (ltb (rest s r b m * b + c) (quot s r b m * quot s r b m))
+
+  meets : IsRoot ((s * s + r) * (b * b) + m * b + c) (s * b + quot s r b m - over) (rest s r b m * b + c + ((s * b + quot s r b m) * 2 - 1) * over - quot s r b m * quot s r b m)
+  meets =
+      either-way
+      (λ (o : ℕ). IsRoot ((s * s + r) * (b * b) + m * b + c) (s * b + quot s r b m - o) (rest s r b m * b + c + ((s * b + quot s r b m) * 2 - 1) * o - quot s r b m * quot s r b m))
+      (rest s r b m * b + c)
+      (quot s r b m * quot s r b m)
+      (λ (l : rest s r b m * b + c < quot s r b m * quot s r b m). same-root (omega arith) (omega arith) (less l))
+      (λ (l : quot s r b m * quot s r b m ≤ rest s r b m * b + c). same-root (omega arith) (omega arith) (high l))
+
 abbrev At : tie.Start → Type 0
 At c =
     let w = c .args .w in
@@ -151,30 +176,31 @@ add-s c = record { fits = a6 (at (c .before .before .before)) }
 mul-k : tie.Need-mul-k
 mul-k c = record { fits = a7 (at (c .before .before .before)) }
 
-sub-t16 : tie.Need-sub-t16
-sub-t16 c = a8 (at (c .before .before .before .before))
+cast-o : tie.Need-cast-o
+cast-o c = search needs
 
-mul-t17 : tie.Need-mul-t17
-mul-t17 c = record { fits = a9 (at (c .before .before .before .before)) }
+sub-t13 : tie.Need-sub-t13
+sub-t13 c = a8 (at (c .before .before .before))
+
+mul-t12 : tie.Need-mul-t12
+mul-t12 c = record { fits = a9 (at (c .before .before .before)) }
+
+sub-t15 : tie.Need-sub-t15
+sub-t15 c = a10 (at (c .before .before .before))
+
+mul-t16 : tie.Need-mul-t16
+mul-t16 c = record { fits = a11 (at (c .before .before .before)) }
+
+add-t17 : tie.Need-add-t17
+add-t17 c = record { fits = a12 (at (c .before .before .before)) }
 
 sub-t18 : tie.Need-sub-t18
-sub-t18 c = a10 (at (c .before .before .before .before))
-
-add-t19 : tie.Need-add-t19
-add-t19 c = record { fits = a11 (at (c .before .before .before .before)) }
-
-sub-t20 : tie.Need-sub-t20
-sub-t20 c = a12 (at (c .before .before .before .before)) (c .if1 .left)
+sub-t18 c = a13 (at (c .before .before .before))
 
 returns : tie.Need-returns
 returns c =
-    let a = c .before .before .before .before .args in
-    high (a .w .root) (a .w .remainder) (a .b) (a .m) (a .c) (c .before .before .before .before .pre) (c .if1 .taken)
-
-returns-2 : tie.Need-returns-2
-returns-2 c =
-    let a = c .before .before .before .before .args in
-    less (a .w .root) (a .w .remainder) (a .b) (a .m) (a .c) (c .before .before .before .before .pre) (c .if1 .left)
+    let a = c .before .before .before .args in
+    meets (a .w .root) (a .w .remainder) (a .b) (a .m) (a .c) (c .before .before .before .pre)
 
 pub extend-spec : {M : Type 1} → statement M
 extend-spec =
@@ -190,10 +216,11 @@ extend-spec =
     mul-s
     add-s
     mul-k
-    sub-t16
-    mul-t17
+    cast-o
+    sub-t13
+    mul-t12
+    sub-t15
+    mul-t16
+    add-t17
     sub-t18
-    add-t19
-    sub-t20
-    returns
-    returns-2)
+    returns)

@@ -1,4 +1,4 @@
--- `root::nearest` meets its contract: the root of the first 16 bits, then of the first 32, of all 64, and of those with 44 zeros after them. Assumes nothing.
+-- `root::nearest` meets its contract: the root of the first 32 bits, then of all 64, and of those with 44 zeros after them. Assumes nothing.
 use mathlib.Core.Path.{_≡_, ap, _∙_, subst}
 use Prim.Native.Nat.{ℕ, _+_, _*_, _/_, _%_, _^_, _≤_, _<_}
 use native.Mathlib.Omega.{arith}
@@ -25,20 +25,14 @@ ready {y} {s} {r} t b m c h l u B M C T S =
     record { small = h .small; base = omega arith; first = M; second = C; narrow = omega arith; short = S }
 
 module _ (n : ℕ) (w : Wide n) where
-  from-16 : {s r : ℕ} → IsRoot (n * 1024 * 4 ^ 8 / 2 ^ 64) s r → IsRoot (n * 1024 / 2 ^ 48) s r
-  from-16 {s} {r} h = subst (λ (k : ℕ). IsRoot k s r) (omega arith) h
-
-  to-32 : (n * 1024 / 2 ^ 48) * 65536 + (n * 1024 / 2 ^ 40 % 256) * 256 + n * 1024 / 2 ^ 32 % 256 ≡ n * 1024 / 2 ^ 32
-  to-32 = omega arith
-
   to-64 : (n * 1024 / 2 ^ 32) * 4294967296 + (n * 1024 / 2 ^ 16 % 65536) * 65536 + n * 1024 % 65536 ≡ n * 1024
   to-64 = omega arith
 
   to-108 : n * 1024 * 17592186044416 + 0 * 4194304 + 0 ≡ 4 * (n * 2 ^ 52)
   to-108 = omega arith
 
-  at-16 : {s r : ℕ} → IsRoot (n * 1024 / 2 ^ 48) s r → Extends s r 256 (n * 1024 / 2 ^ 40 % 256) (n * 1024 / 2 ^ 32 % 256)
-  at-16 h = ready 128 256 (n * 1024 / 2 ^ 40 % 256) (n * 1024 / 2 ^ 32 % 256) h (omega arith) (omega arith) (omega arith) (omega arith) (omega arith) (omega arith) (omega arith)
+  top : (2 ^ 30 ≤ n * 1024 / 2 ^ 32) × (n * 1024 / 2 ^ 32 < 2 ^ 32)
+  top = (omega arith, omega arith)
 
   at-32 : {s r : ℕ} → IsRoot (n * 1024 / 2 ^ 32) s r → Extends s r 65536 (n * 1024 / 2 ^ 16 % 65536) (n * 1024 % 65536)
   at-32 h = ready 32768 65536 (n * 1024 / 2 ^ 16 % 65536) (n * 1024 % 65536) h (omega arith) (omega arith) (omega arith) (omega arith) (omega arith) (omega arith) (omega arith)
@@ -52,49 +46,37 @@ fits-106 n h = omega arith
 mul-x : tie.Need-mul-x
 mul-x c = search needs
 
-digits-requires : tie.Need-digits-requires
-digits-requires c κs = search needs
+of-32-bits-requires : tie.Need-of-32-bits-requires
+of-32-bits-requires c κs = top (c .args .n) (c .pre)
 
 -- the root after each step
-root-16 : (c : tie.After-digits) → IsRoot (c .before .args .n * 1024 / 2 ^ 48) (c .digits .result .root) (c .digits .result .remainder)
-root-16 c = from-16 (c .before .args .n) (c .before .pre) (c .digits .ensures)
-
-root-32 : (c : tie.After-extend) → IsRoot (c .before .before .args .n * 1024 / 2 ^ 32) (c .extend .result .root) (c .extend .result .remainder)
-root-32 c =
+root-64 : (c : tie.After-extend) → IsRoot (c .before .before .args .n * 1024) (c .extend .result .root) (c .extend .result .remainder)
+root-64 c =
     let s = c .before .before in
     let x : ℕ = s .args .n * 1024 in
-    longer 256 (x / 2 ^ 40 % 256) (x / 2 ^ 32 % 256) (x / 2 ^ 32) (root-16 (c .before)) (to-32 (s .args .n) (s .pre)) (c .extend .ensures)
+    longer 65536 (x / 2 ^ 16 % 65536) (x % 65536) x (c .before .of-32-bits .ensures) (to-64 (s .args .n) (s .pre)) (c .extend .ensures)
 
-root-64 : (c : tie.After-extend2) → IsRoot (c .before .before .before .args .n * 1024) (c .extend2 .result .root) (c .extend2 .result .remainder)
-root-64 c =
-    let s = c .before .before .before in
-    let x : ℕ = s .args .n * 1024 in
-    longer 65536 (x / 2 ^ 16 % 65536) (x % 65536) x (root-32 (c .before)) (to-64 (s .args .n) (s .pre)) (c .extend2 .ensures)
-
-root-108 : (c : tie.After-extend3) → IsRoot (4 * (c .before .before .before .before .args .n * 2 ^ 52)) (c .extend3 .result .root) (c .extend3 .result .remainder)
+root-108 : (c : tie.After-extend2) → IsRoot (4 * (c .before .before .before .args .n * 2 ^ 52)) (c .extend2 .result .root) (c .extend2 .result .remainder)
 root-108 c =
-    let s = c .before .before .before .before in
-    longer 4194304 0 0 (4 * (s .args .n * 2 ^ 52)) (root-64 (c .before)) (to-108 (s .args .n) (s .pre)) (c .extend3 .ensures)
+    let s = c .before .before .before in
+    longer 4194304 0 0 (4 * (s .args .n * 2 ^ 52)) (root-64 (c .before)) (to-108 (s .args .n) (s .pre)) (c .extend2 .ensures)
 
 extend-requires : tie.Need-extend-requires
-extend-requires c κs = at-16 (c .before .args .n) (c .before .pre) (root-16 c)
+extend-requires c κs = at-32 (c .before .args .n) (c .before .pre) (c .of-32-bits .ensures)
 
 extend-requires-2 : tie.Need-extend-requires-2
-extend-requires-2 c κs = at-32 (c .before .before .args .n) (c .before .before .pre) (root-32 c)
-
-extend-requires-3 : tie.Need-extend-requires-3
-extend-requires-3 c κs = at-64 (c .before .before .before .args .n) (c .before .before .before .pre) (root-64 c)
+extend-requires-2 c κs = at-64 (c .before .before .args .n) (c .before .before .pre) (root-64 c)
 
 room : (q : ℕ) → q < 2 ^ 54 → q + 1 < 2 ^ 64
 room q h = omega arith
 
 add-result : tie.Need-add-result
 add-result c =
-    let s = c .before .before .before .before .before in
-    record { fits = room (c .before .extend3 .result .root) (root-short (fits-106 (s .args .n) (s .pre .1)) (root-108 (c .before))) }
+    let s = c .before .before .before .before in
+    record { fits = room (c .before .extend2 .result .root) (root-short (fits-106 (s .args .n) (s .pre .1)) (root-108 (c .before))) }
 
 returns : tie.Need-returns
-returns c = let s = c .before .before .before .before .before in nearest-is (fits-106 (s .args .n) (s .pre .1)) (root-108 (c .before))
+returns c = let s = c .before .before .before .before in nearest-is (fits-106 (s .args .n) (s .pre .1)) (root-108 (c .before))
 
 pub nearest-spec : {M : Type 1} → statement M
-nearest-spec = tie.close (tie.spec mul-x digits-requires extend-requires extend-requires-2 extend-requires-3 add-result returns)
+nearest-spec = tie.close (tie.spec mul-x of-32-bits-requires extend-requires extend-requires-2 add-result returns)
