@@ -1,12 +1,13 @@
 -- Laws for `build`, which checks the corners and works out the normals in the region that it makes.
 use Prim.Native.Nat.{ℕ, _+_, _-_, _≤_, _<_}
 use native.Mathlib.Omega.{arith}
+use native.Mathlib.Nat.{le-refl}
 use mathlib.Core.Path.{_≡_, refl, sym, ap, subst, _∙_}
 use mathlib.Core.Bool.{Bool, true, false, not, _&&_}
 use lib.Ieee.{Float, lt}
 use mathlib.Core.List.{List, [], _∷_, _++_}
 use lib.ListN.{length, take, drop, getD, set, length-set}
-use lib.Seq.{length-take-le}
+use lib.Seq.{length-take-le, getD-set-other}
 use Rattle.coo3d.specs.declared.Coo3D.{Coo3D}
 use Rattle.coo3d.specs.declared.Vect3.{Vect3}
 use Rattle.domain.specs.Checks.{pointAt, pointsFrom, pointsOf}
@@ -36,33 +37,42 @@ pub record Checking (points : List Coo3D) (count : ℕ) (r : Region) (i : ℕ) :
   pub normals : length (r .«cross_products») ≡ 64
   pub counted : r .count ≡ count
   pub clear : r .«contains_south_pole» ≡ false
+  pub rest : (j : ℕ) → i ≤ j → getD (r .vertices) j nowhere ≡ getD points j nowhere
   pub so-far : soFar points count i (r .vertices) ≡ pointsFrom 0 (take count points)
+
+other : {i j : ℕ} → i + 1 ≤ j → j ≡ i → ⊥
+other h e = omega (arith, h, e)
+
+later : {i j : ℕ} → i + 1 ≤ j → i ≤ j
+later h = omega (arith, h)
 
 pub checking-starts : (points : List Coo3D) (count : ℕ) (r : Region) → r .vertices ≡ points → length points ≡ 64 → length (r .«cross_products») ≡ 64 → r .count ≡ count → r .«contains_south_pole» ≡ false → Checking points count r 0
 checking-starts points count r v e n k f =
-    record { below = omega arith; corners = ap length v ∙ e; normals = n; counted = k; clear = f; so-far = far-start points count (r .vertices) }
+    record { below = omega arith; corners = ap length v ∙ e; normals = n; counted = k; clear = f; rest = λ j h. ap (λ (l : List Coo3D). getD l j nowhere) v; so-far = far-start points count (r .vertices) }
 
 module _ {points : List Coo3D} {count i : ℕ} {r : Region} (inv : Checking points count r i) (full : length points ≡ 64) where
-  pub checking-good : count ≤ 64 → i < count → (q : Coo3D) → pointAt i (getD points i nowhere) ≡ answered q
+  pub checking-good : count ≤ 64 → i < count → (q : Coo3D) → pointAt i (getD (r .vertices) i nowhere) ≡ answered q
       → Checking points count (record { vertices = set (r .vertices) i q; «cross_products» = r .«cross_products»; count = r .count; «contains_south_pole» = r .«contains_south_pole» }) (i + 1)
   checking-good few below q e =
       let long : count ≤ length points = omega (arith, few, full) in
       let corners = inv .corners in
       let room : i < length (r .vertices) = omega (arith, below, few, corners) in
+      let at : getD (r .vertices) i nowhere ≡ getD points i nowhere = inv .rest i (le-refl i) in
       record {
         below = omega (arith, below);
         corners = length-set (r .vertices) i q ∙ inv .corners;
         normals = inv .normals;
         counted = inv .counted;
         clear = inv .clear;
-        so-far = sym (far-good points count i (r .vertices) nowhere long below q room e) ∙ inv .so-far;
+        rest = λ j h. getD-set-other (r .vertices) i j q nowhere (other h) ∙ inv .rest j (later h);
+        so-far = sym (far-good points count i (r .vertices) nowhere long below q room (ap (pointAt i) (sym at) ∙ e)) ∙ inv .so-far;
       }
 
-  pub checking-bad : (count ≡ 0 → ⊥) → count ≤ 64 → i < count → (k : ℕ) (vs : List ℕ) → refused k vs ≡ pointAt i (getD points i nowhere) → refused 1 (i ∷ []) ≡ pointsOf points count
+  pub checking-bad : (count ≡ 0 → ⊥) → count ≤ 64 → i < count → (k : ℕ) (vs : List ℕ) → refused k vs ≡ pointAt i (getD (r .vertices) i nowhere) → refused 1 (i ∷ []) ≡ pointsOf points count
   unfolding pointsOf
   checking-bad some few below k vs e =
       let long : count ≤ length points = omega (arith, few, full) in
-      sym (far-bad points count i (r .vertices) nowhere long below k vs e) ∙ inv .so-far ∙ sym (count-few count _ some few)
+      sym (far-bad points count i (r .vertices) nowhere long below k vs (e ∙ ap (pointAt i) (inv .rest i (le-refl i)))) ∙ inv .so-far ∙ sym (count-few count _ some few)
 
   pub checked : (count ≡ 0 → ⊥) → count ≤ 64 → count ≤ i → answered (take count (r .vertices)) ≡ pointsOf points count
   unfolding pointsOf
@@ -181,3 +191,6 @@ module _ {points : List Coo3D} {count i k : ℕ} {r₀ r : Region} {from : Coo3D
 
   pub by-out : (p : Coo3D) (d : Answer Bool) → d ≡ controlAt (viewOf r) p false → andThen d (λ f. answered (withFlag (viewOf r) f)) ≡ buildOf points count (ControlPointOut p)
   by-out p d e = ends (ControlPointOut p) d (e ∙ sym (flag-out (viewOf r) none fits p))
+
+  pub as-clear : answered (viewOf r) ≡ answered (withFlag (viewOf r) false)
+  as-clear = rw (second .clear)

@@ -241,7 +241,7 @@ pub fn build(points: [Coo3D; 64], count: usize, method: ContainsSouthPoleMethod)
     };
     let mut i: usize = 0;
     while i < count {
-        let p = points[i];
+        let p = region.vertices[i];
         let PointCheck::Point(q) = domain::check_point(p, i) else {
             return refused(Cause::OutsideDomain(i));
         };
@@ -264,10 +264,31 @@ pub fn build(points: [Coo3D; 64], count: usize, method: ContainsSouthPoleMethod)
     }
     let is_basic = (float::abs(sum_lon) > float::PI) & (sum_z < 0.0);
     match method {
-        ContainsSouthPoleMethod::Default => made(region, is_basic),
-        ContainsSouthPoleMethod::DefaultComplement => made(region, !is_basic),
-        ContainsSouthPoleMethod::ContainsSouthPole => made(region, true),
-        ContainsSouthPoleMethod::DoNotContainsSouthPole => made(region, false),
+        ContainsSouthPoleMethod::Default => {
+            region.contains_south_pole = is_basic;
+            Built {
+                region,
+                outcome: Outcome::Done,
+            }
+        }
+        ContainsSouthPoleMethod::DefaultComplement => {
+            region.contains_south_pole = !is_basic;
+            Built {
+                region,
+                outcome: Outcome::Done,
+            }
+        }
+        ContainsSouthPoleMethod::ContainsSouthPole => {
+            region.contains_south_pole = true;
+            Built {
+                region,
+                outcome: Outcome::Done,
+            }
+        }
+        ContainsSouthPoleMethod::DoNotContainsSouthPole => Built {
+            region,
+            outcome: Outcome::Done,
+        },
         ContainsSouthPoleMethod::ControlPointIn(p) => {
             flagged(region, flag_for_control_point(region, p, true))
         }

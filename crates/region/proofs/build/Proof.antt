@@ -5,15 +5,15 @@ use lib.ListN.{length}
 use borrow.Author.Needs.{needs}
 use Rattle.domain.specs.Checks.{pointAnswer}
 use Rattle.region.specs.Region.{buildOf}
-use Rattle.region.proofs.Building.{Checking, checking-starts, checking-good, checking-bad, Working, working-starts, working-turn, passed-on, no-points, many-points, basic-is, in-range, by-default, by-complement, by-set, by-clear, by-in, by-out}
+use Rattle.region.proofs.Building.{Checking, checking-starts, checking-good, checking-bad, Working, working-starts, working-turn, passed-on, no-points, many-points, basic-is, in-range, by-default, by-complement, by-set, by-clear, by-in, by-out, as-clear}
 use Rattle.region.proofs.build.Statement.{statement}
 use Rattle.region.proofs.build.Tie as tie
 
 abbrev Inv-loop : tie.InvT-loop
-Inv-loop count method points region₀ i₀ region i = Checking points count region i
+Inv-loop count method region₀ i₀ region i = Checking (region₀ .vertices) count region i
 
 abbrev μ-loop : tie.MeasureT-loop
-μ-loop count method points region₀ i₀ region i = count - i
+μ-loop count method region₀ i₀ region i = count - i
 
 abbrev Inv-loop2 : tie.InvT-loop2
 Inv-loop2 count method region₀ i last from₀ sum-lon₀ sum-z₀ k₀ region from sum-lon sum-z k = Working (region₀ .vertices) count region from sum-lon sum-z k
@@ -34,13 +34,13 @@ returns-2 : tie.Need-returns-2 Inv-loop μ-loop Inv-loop2 μ-loop2
 returns-2 c = c .refused2 .ensures ∙ passed-on _ _ _ _ _ (sym (many-points _ _ (c .before .before .if1 .left) (c .before .if2 .taken)))
 
 loop-holds : tie.Need-loop-holds Inv-loop μ-loop Inv-loop2 μ-loop2
-loop-holds c = let e : length (c .before .before .args .t1) ≡ 64 = search needs in checking-starts _ _ _ refl e refl refl refl
+loop-holds c = let e : length (c .before .before .args .points) ≡ 64 = search needs in checking-starts _ _ _ refl e refl refl refl
 
 mul-p : tie.Need-mul-p Inv-loop μ-loop Inv-loop2 μ-loop2
 mul-p c = search needs
 
-array-copy-out-p : tie.Need-array-copy-out-p Inv-loop μ-loop Inv-loop2 μ-loop2
-array-copy-out-p c = search needs
+element-copy-out-p : tie.Need-element-copy-out-p Inv-loop μ-loop Inv-loop2 μ-loop2
+element-copy-out-p c = search needs
 
 check-point-requires : tie.Need-check-point-requires Inv-loop μ-loop Inv-loop2 μ-loop2
 check-point-requires c κs = search needs
@@ -58,7 +58,7 @@ returns-3 : tie.Need-returns-3 Inv-loop μ-loop Inv-loop2 μ-loop2
 returns-3 c =
     let l = c .before .before .before .before .before .before .loop in
     let told = ap pointAnswer (sym (c .before .enum-told .given .1)) ∙ c .before .before .before .check-point .ensures in
-    let e : length (c .before .before .before .before .before .before .before .before .before .args .t1) ≡ 64 = search needs in
+    let e : length (c .before .before .before .before .before .before .before .before .before .args .points) ≡ 64 = search needs in
     c .refused3 .ensures ∙ passed-on _ _ _ _ _ (checking-bad (l .inv) e (c .before .before .before .before .before .before .before .before .if1 .left) (c .before .before .before .before .before .before .before .if2 .left) (c .before .before .before .before .before .loop-test .taken) _ _ told)
 
 mul-q : tie.Need-mul-q Inv-loop μ-loop Inv-loop2 μ-loop2
@@ -77,7 +77,7 @@ loop-again : tie.Need-loop-again Inv-loop μ-loop Inv-loop2 μ-loop2
 loop-again c =
     let l = c .before .before .before .before .before .before .loop in
     let good = sym (c .before .before .before .check-point .ensures) ∙ ap pointAnswer (c .before .q .given .1) in
-    let e : length (c .before .before .before .before .before .before .before .before .before .args .t1) ≡ 64 = search needs in
+    let e : length (c .before .before .before .before .before .before .before .before .before .args .points) ≡ 64 = search needs in
     checking-good (l .inv) e (c .before .before .before .before .before .before .before .if2 .left) (c .before .before .before .before .before .loop-test .taken) _ good
 
 sub-last : tie.Need-sub-last Inv-loop μ-loop Inv-loop2 μ-loop2
@@ -125,33 +125,21 @@ abs-requires c κs = search needs
 enum-told-2 : tie.Need-enum-told-2 Inv-loop μ-loop Inv-loop2 μ-loop2
 enum-told-2 c = search needs
 
-made-requires : tie.Need-made-requires Inv-loop μ-loop Inv-loop2 μ-loop2
-made-requires c κs = search needs
-
 enum-told-3 : tie.Need-enum-told-3 Inv-loop μ-loop Inv-loop2 μ-loop2
 enum-told-3 c = search needs
-
-made-requires-2 : tie.Need-made-requires-2 Inv-loop μ-loop Inv-loop2 μ-loop2
-made-requires-2 c κs = search needs
 
 enum-told-4 : tie.Need-enum-told-4 Inv-loop μ-loop Inv-loop2 μ-loop2
 enum-told-4 c = search needs
 
-made-requires-3 : tie.Need-made-requires-3 Inv-loop μ-loop Inv-loop2 μ-loop2
-made-requires-3 c κs = search needs
-
 enum-told-5 : tie.Need-enum-told-5 Inv-loop μ-loop Inv-loop2 μ-loop2
 enum-told-5 c = search needs
-
-made-requires-4 : tie.Need-made-requires-4 Inv-loop μ-loop Inv-loop2 μ-loop2
-made-requires-4 c κs = search needs
 
 enum-known-method : tie.Need-enum-known-method Inv-loop μ-loop Inv-loop2 μ-loop2
 enum-known-method c = search needs
 
 flag-for-control-point-requires :
     tie.Need-flag-for-control-point-requires Inv-loop μ-loop Inv-loop2 μ-loop2
-flag-for-control-point-requires c κs = let e : length (c .before .before .before .before .before .before .before .before .before .before .before .args .t1) ≡ 64 = search needs in in-range (c .before .before .before .before .before .before .before .before .loop .inv) (c .before .before .before .before .before .loop2 .inv) e (c .before .before .before .before .before .before .before .before .before .before .if1 .left) (c .before .before .before .before .before .before .before .before .before .if2 .left) (c .before .before .before .before .before .before .before .loop-test .left) (c .before .before .before .before .loop2-test .left)
+flag-for-control-point-requires c κs = let e : length (c .before .before .before .before .before .before .before .before .before .before .before .args .points) ≡ 64 = search needs in in-range (c .before .before .before .before .before .before .before .before .loop .inv) (c .before .before .before .before .before .loop2 .inv) e (c .before .before .before .before .before .before .before .before .before .before .if1 .left) (c .before .before .before .before .before .before .before .before .before .if2 .left) (c .before .before .before .before .before .before .before .loop-test .left) (c .before .before .before .before .loop2-test .left)
 
 flagged-requires : tie.Need-flagged-requires Inv-loop μ-loop Inv-loop2 μ-loop2
 flagged-requires c κs = search needs
@@ -161,46 +149,46 @@ enum-known-method-2 c = search needs
 
 flag-for-control-point-requires-2 :
     tie.Need-flag-for-control-point-requires-2 Inv-loop μ-loop Inv-loop2 μ-loop2
-flag-for-control-point-requires-2 c κs = let e : length (c .before .before .before .before .before .before .before .before .before .before .before .args .t1) ≡ 64 = search needs in in-range (c .before .before .before .before .before .before .before .before .loop .inv) (c .before .before .before .before .before .loop2 .inv) e (c .before .before .before .before .before .before .before .before .before .before .if1 .left) (c .before .before .before .before .before .before .before .before .before .if2 .left) (c .before .before .before .before .before .before .before .loop-test .left) (c .before .before .before .before .loop2-test .left)
+flag-for-control-point-requires-2 c κs = let e : length (c .before .before .before .before .before .before .before .before .before .before .before .args .points) ≡ 64 = search needs in in-range (c .before .before .before .before .before .before .before .before .loop .inv) (c .before .before .before .before .before .loop2 .inv) e (c .before .before .before .before .before .before .before .before .before .before .if1 .left) (c .before .before .before .before .before .before .before .before .before .if2 .left) (c .before .before .before .before .before .before .before .loop-test .left) (c .before .before .before .before .loop2-test .left)
 
 flagged-requires-2 : tie.Need-flagged-requires-2 Inv-loop μ-loop Inv-loop2 μ-loop2
 flagged-requires-2 c κs = search needs
 
 returns-4 : tie.Need-returns-4 Inv-loop μ-loop Inv-loop2 μ-loop2
 returns-4 c =
-    let a = c .before .before .before .before .before .before .before .before .before .before .before .args in
-    let e : length (a .t1) ≡ 64 = search needs in
-    c .made .ensures ∙ by-default (c .before .before .before .before .before .before .before .before .loop .inv) (c .before .before .before .before .before .loop2 .inv) e (c .before .before .before .before .before .before .before .before .before .before .if1 .left) (c .before .before .before .before .before .before .before .before .before .if2 .left) (c .before .before .before .before .before .before .before .loop-test .left) (c .before .before .before .before .loop2-test .left) _ (basic-is (c .before .before .before .before .before .before .before .before .loop .inv) (c .before .before .before .before .before .loop2 .inv) e (c .before .before .before .before .before .before .before .before .before .before .if1 .left) (c .before .before .before .before .before .before .before .before .before .if2 .left) (c .before .before .before .before .before .before .before .loop-test .left) (c .before .before .before .before .loop2-test .left) _ (c .before .before .before .abs .ensures)) ∙ ap (buildOf (a .t1) (a .count)) (sym (c .before .enum-told2 .given .1))
+    let a = c .before .before .before .before .before .before .before .before .before .before .args in
+    let e : length (a .points) ≡ 64 = search needs in
+    by-default (c .before .before .before .before .before .before .before .loop .inv) (c .before .before .before .before .loop2 .inv) e (c .before .before .before .before .before .before .before .before .before .if1 .left) (c .before .before .before .before .before .before .before .before .if2 .left) (c .before .before .before .before .before .before .loop-test .left) (c .before .before .before .loop2-test .left) _ (basic-is (c .before .before .before .before .before .before .before .loop .inv) (c .before .before .before .before .loop2 .inv) e (c .before .before .before .before .before .before .before .before .before .if1 .left) (c .before .before .before .before .before .before .before .before .if2 .left) (c .before .before .before .before .before .before .loop-test .left) (c .before .before .before .loop2-test .left) _ (c .before .before .abs .ensures)) ∙ ap (buildOf (a .points) (a .count)) (sym (c .enum-told2 .given .1))
 
 returns-5 : tie.Need-returns-5 Inv-loop μ-loop Inv-loop2 μ-loop2
 returns-5 c =
-    let a = c .before .before .before .before .before .before .before .before .before .before .before .args in
-    let e : length (a .t1) ≡ 64 = search needs in
-    c .made2 .ensures ∙ by-complement (c .before .before .before .before .before .before .before .before .loop .inv) (c .before .before .before .before .before .loop2 .inv) e (c .before .before .before .before .before .before .before .before .before .before .if1 .left) (c .before .before .before .before .before .before .before .before .before .if2 .left) (c .before .before .before .before .before .before .before .loop-test .left) (c .before .before .before .before .loop2-test .left) _ (basic-is (c .before .before .before .before .before .before .before .before .loop .inv) (c .before .before .before .before .before .loop2 .inv) e (c .before .before .before .before .before .before .before .before .before .before .if1 .left) (c .before .before .before .before .before .before .before .before .before .if2 .left) (c .before .before .before .before .before .before .before .loop-test .left) (c .before .before .before .before .loop2-test .left) _ (c .before .before .before .abs .ensures)) ∙ ap (buildOf (a .t1) (a .count)) (sym (c .before .enum-told3 .given .1))
+    let a = c .before .before .before .before .before .before .before .before .before .before .args in
+    let e : length (a .points) ≡ 64 = search needs in
+    by-complement (c .before .before .before .before .before .before .before .loop .inv) (c .before .before .before .before .loop2 .inv) e (c .before .before .before .before .before .before .before .before .before .if1 .left) (c .before .before .before .before .before .before .before .before .if2 .left) (c .before .before .before .before .before .before .loop-test .left) (c .before .before .before .loop2-test .left) _ (basic-is (c .before .before .before .before .before .before .before .loop .inv) (c .before .before .before .before .loop2 .inv) e (c .before .before .before .before .before .before .before .before .before .if1 .left) (c .before .before .before .before .before .before .before .before .if2 .left) (c .before .before .before .before .before .before .loop-test .left) (c .before .before .before .loop2-test .left) _ (c .before .before .abs .ensures)) ∙ ap (buildOf (a .points) (a .count)) (sym (c .enum-told3 .given .1))
 
 returns-6 : tie.Need-returns-6 Inv-loop μ-loop Inv-loop2 μ-loop2
 returns-6 c =
-    let a = c .before .before .before .before .before .before .before .before .before .before .before .args in
-    let e : length (a .t1) ≡ 64 = search needs in
-    c .made3 .ensures ∙ by-set (c .before .before .before .before .before .before .before .before .loop .inv) (c .before .before .before .before .before .loop2 .inv) e (c .before .before .before .before .before .before .before .before .before .before .if1 .left) (c .before .before .before .before .before .before .before .before .before .if2 .left) (c .before .before .before .before .before .before .before .loop-test .left) (c .before .before .before .before .loop2-test .left) ∙ ap (buildOf (a .t1) (a .count)) (sym (c .before .enum-told4 .given .1))
+    let a = c .before .before .before .before .before .before .before .before .before .before .args in
+    let e : length (a .points) ≡ 64 = search needs in
+    by-set (c .before .before .before .before .before .before .before .loop .inv) (c .before .before .before .before .loop2 .inv) e (c .before .before .before .before .before .before .before .before .before .if1 .left) (c .before .before .before .before .before .before .before .before .if2 .left) (c .before .before .before .before .before .before .loop-test .left) (c .before .before .before .loop2-test .left) ∙ ap (buildOf (a .points) (a .count)) (sym (c .enum-told4 .given .1))
 
 returns-7 : tie.Need-returns-7 Inv-loop μ-loop Inv-loop2 μ-loop2
 returns-7 c =
-    let a = c .before .before .before .before .before .before .before .before .before .before .before .args in
-    let e : length (a .t1) ≡ 64 = search needs in
-    c .made4 .ensures ∙ by-clear (c .before .before .before .before .before .before .before .before .loop .inv) (c .before .before .before .before .before .loop2 .inv) e (c .before .before .before .before .before .before .before .before .before .before .if1 .left) (c .before .before .before .before .before .before .before .before .before .if2 .left) (c .before .before .before .before .before .before .before .loop-test .left) (c .before .before .before .before .loop2-test .left) ∙ ap (buildOf (a .t1) (a .count)) (sym (c .before .enum-told5 .given .1))
+    let a = c .before .before .before .before .before .before .before .before .before .before .args in
+    let e : length (a .points) ≡ 64 = search needs in
+    as-clear (c .before .before .before .before .before .before .before .loop .inv) (c .before .before .before .before .loop2 .inv) e (c .before .before .before .before .before .before .before .before .before .if1 .left) (c .before .before .before .before .before .before .before .before .if2 .left) (c .before .before .before .before .before .before .loop-test .left) (c .before .before .before .loop2-test .left) ∙ by-clear (c .before .before .before .before .before .before .before .loop .inv) (c .before .before .before .before .loop2 .inv) e (c .before .before .before .before .before .before .before .before .before .if1 .left) (c .before .before .before .before .before .before .before .before .if2 .left) (c .before .before .before .before .before .before .loop-test .left) (c .before .before .before .loop2-test .left) ∙ ap (buildOf (a .points) (a .count)) (sym (c .enum-told5 .given .1))
 
 returns-8 : tie.Need-returns-8 Inv-loop μ-loop Inv-loop2 μ-loop2
 returns-8 c =
     let a = c .before .before .before .before .before .before .before .before .before .before .before .before .before .args in
-    let e : length (a .t1) ≡ 64 = search needs in
-    c .flagged .ensures ∙ by-in (c .before .before .before .before .before .before .before .before .before .before .loop .inv) (c .before .before .before .before .before .before .before .loop2 .inv) e (c .before .before .before .before .before .before .before .before .before .before .before .before .if1 .left) (c .before .before .before .before .before .before .before .before .before .before .before .if2 .left) (c .before .before .before .before .before .before .before .before .before .loop-test .left) (c .before .before .before .before .before .before .loop2-test .left) _ _ (c .before .flag-for-control-point .ensures) ∙ ap (buildOf (a .t1) (a .count)) (sym (c .before .before .before .method .given .1))
+    let e : length (a .points) ≡ 64 = search needs in
+    c .flagged .ensures ∙ by-in (c .before .before .before .before .before .before .before .before .before .before .loop .inv) (c .before .before .before .before .before .before .before .loop2 .inv) e (c .before .before .before .before .before .before .before .before .before .before .before .before .if1 .left) (c .before .before .before .before .before .before .before .before .before .before .before .if2 .left) (c .before .before .before .before .before .before .before .before .before .loop-test .left) (c .before .before .before .before .before .before .loop2-test .left) _ _ (c .before .flag-for-control-point .ensures) ∙ ap (buildOf (a .points) (a .count)) (sym (c .before .before .before .method .given .1))
 
 returns-9 : tie.Need-returns-9 Inv-loop μ-loop Inv-loop2 μ-loop2
 returns-9 c =
     let a = c .before .before .before .before .before .before .before .before .before .before .before .before .before .args in
-    let e : length (a .t1) ≡ 64 = search needs in
-    c .flagged2 .ensures ∙ by-out (c .before .before .before .before .before .before .before .before .before .before .loop .inv) (c .before .before .before .before .before .before .before .loop2 .inv) e (c .before .before .before .before .before .before .before .before .before .before .before .before .if1 .left) (c .before .before .before .before .before .before .before .before .before .before .before .if2 .left) (c .before .before .before .before .before .before .before .before .before .loop-test .left) (c .before .before .before .before .before .before .loop2-test .left) _ _ (c .before .flag-for-control-point2 .ensures) ∙ ap (buildOf (a .t1) (a .count)) (sym (c .before .before .before .method2 .given .1))
+    let e : length (a .points) ≡ 64 = search needs in
+    c .flagged2 .ensures ∙ by-out (c .before .before .before .before .before .before .before .before .before .before .loop .inv) (c .before .before .before .before .before .before .before .loop2 .inv) e (c .before .before .before .before .before .before .before .before .before .before .before .before .if1 .left) (c .before .before .before .before .before .before .before .before .before .before .before .if2 .left) (c .before .before .before .before .before .before .before .before .before .loop-test .left) (c .before .before .before .before .before .before .loop2-test .left) _ _ (c .before .flag-for-control-point2 .ensures) ∙ ap (buildOf (a .points) (a .count)) (sym (c .before .before .before .method2 .given .1))
 
 pub build-spec : {M : Type 1} → statement M
 build-spec =
@@ -216,7 +204,7 @@ build-spec =
     returns-2
     loop-holds
     mul-p
-    array-copy-out-p
+    element-copy-out-p
     check-point-requires
     enum-known-q
     enum-told
@@ -242,13 +230,9 @@ build-spec =
     loop2-again
     abs-requires
     enum-told-2
-    made-requires
     enum-told-3
-    made-requires-2
     enum-told-4
-    made-requires-3
     enum-told-5
-    made-requires-4
     enum-known-method
     flag-for-control-point-requires
     flagged-requires
