@@ -1,7 +1,6 @@
 pub mod Grow
 pub mod Quotient
 pub mod Test
-pub mod Table
 pub mod Line
 pub mod Laws
 pub mod Units
