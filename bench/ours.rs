@@ -9,7 +9,7 @@ macro_rules! exported {
 }
 
 exported!((corners: Doubles, m: usize, normals: Doubles, n: usize, flag: u64, entries: Doubles, k: usize):
-    bench_idle_region bench_contains bench_circle_all bench_parallel_first bench_parallel_all bench_put bench_insert bench_hold);
+    bench_idle_region bench_contains bench_circle_all bench_parallel_first bench_parallel_all bench_put bench_insert bench_hold bench_hold_lent);
 exported!((corners: Doubles, m: usize, normals: Doubles, n: usize, flag: u64, starts: Doubles, k: usize, ends: Doubles, l: usize):
     bench_arc_first bench_arc_all);
 exported!((corners: Doubles, m: usize, normals: Doubles, n: usize, flag: u64, times: usize): bench_remove bench_turn);

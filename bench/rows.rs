@@ -244,6 +244,11 @@ fn edits(case: &'static Case) -> Section {
             Box::new(move |n| theirs::hold(&mut polygon(), &case.points[..5 * n])),
         ),
         edit(
+            "hold, on a lent region",
+            Box::new(move |n| region.entries(bench_hold_lent, &case.points[..5 * n])),
+            Box::new(move |n| theirs::hold(&mut polygon(), &case.points[..5 * n])),
+        ),
+        edit(
             "rule, Default",
             Box::new(move |n| region.rule(0, &case.points[..5 * n])),
             Box::new(move |n| theirs::rule(&mut polygon(), 0, &case.points[..5 * n])),

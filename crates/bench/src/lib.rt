@@ -138,32 +138,35 @@ fn corners_of(s: &[f64]) -> [Coo3D; 64] {
     corners
 }
 
-fn normals_of(s: &[f64]) -> [Vect3; 64] {
+// A region by its fields, so that no build is measured with a call.
+fn region_of(corners: &[f64], normals: &[f64], flag: u64) -> Region {
+    let origin = Coo3D {
+        x: 0.0,
+        y: 0.0,
+        z: 0.0,
+        lon: 0.0,
+        lat: 0.0,
+    };
     let zero = Vect3 {
         x: 0.0,
         y: 0.0,
         z: 0.0,
     };
-    let mut normals = [zero; 64];
-    let mut i: usize = 0;
-    while i < 64 {
-        let n = triple_at(s, i);
-        normals[i] = n;
-        i += 1;
-    }
-    normals
-}
-
-// A region by its fields, so that a call's stack can be told from that of a build before it.
-fn region_of(corners: &[f64], normals: &[f64], flag: u64) -> Region {
-    let vertices = corners_of(corners);
-    let cross_products = normals_of(normals);
-    Region {
-        vertices,
-        cross_products,
+    let mut region = Region {
+        vertices: [origin; 64],
+        cross_products: [zero; 64],
         count: corners.len() / 5,
         contains_south_pole: flag == 1,
+    };
+    let mut i: usize = 0;
+    while i < 64 {
+        let p = point_at(corners, i);
+        let n = triple_at(normals, i);
+        region.vertices[i] = p;
+        region.cross_products[i] = n;
+        i += 1;
     }
+    region
 }
 
 // The index after k.
@@ -520,6 +523,36 @@ pub extern "C" fn bench_hold(corners: &[f64], normals: &[f64], flag: u64, points
         i += 1;
         let p = point_at(points, at);
         let answer = edits::hold(region, p);
+        let outcome = answer.outcome;
+        let edited = answer.region;
+        let v = edited.cross_products[k];
+        sum = mix_vector(
+            mix(mix_outcome(sum, outcome), edited.contains_south_pole as u64),
+            v,
+        );
+        region = edited;
+        k = next(k, edited.count);
+    }
+    sum
+}
+
+#[no_mangle]
+pub extern "C" fn bench_hold_lent(
+    corners: &[f64],
+    normals: &[f64],
+    flag: u64,
+    points: &[f64],
+) -> u64 {
+    let mut region = region_of(corners, normals, flag);
+    let mut k: usize = 0;
+    let mut sum: u64 = 0;
+    let n = points.len() / 5;
+    let mut i: usize = 0;
+    while i < n {
+        let at = i;
+        i += 1;
+        let p = point_at(points, at);
+        let answer = lending::hold_on_lent(region, p);
         let outcome = answer.outcome;
         let edited = answer.region;
         let v = edited.cross_products[k];
