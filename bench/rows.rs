@@ -201,7 +201,7 @@ fn queries(cases: &[Named]) -> Section {
 fn edits(case: &'static Case) -> Section {
     let region = &case.region;
     let flag = region.flag == 1;
-    let polygon = move || theirs::afresh(&theirs::points(&region.corners), flag);
+    let polygon = &case.polygon;
     // An insert ends with 64 corners.
     let shorter = leaked(region_of(&theirs::afresh(
         &theirs::points(&region.corners[5..]),
@@ -236,32 +236,30 @@ fn edits(case: &'static Case) -> Section {
         edit(
             "turn",
             Box::new(move |n| region.repeated(bench_turn, n)),
-            Box::new(move |n| theirs::turn(&mut polygon(), n)),
+            Box::new(move |n| theirs::turn(polygon, n)),
         ),
         edit(
             "hold",
             Box::new(move |n| region.entries(bench_hold, &case.points[..5 * n])),
-            Box::new(move |n| theirs::hold(&mut polygon(), &case.points[..5 * n])),
+            Box::new(move |n| theirs::hold(polygon, &case.points[..5 * n])),
         ),
         edit(
             "hold, on a lent region",
             Box::new(move |n| region.entries(bench_hold_lent, &case.points[..5 * n])),
-            Box::new(move |n| theirs::hold(&mut polygon(), &case.points[..5 * n])),
+            Box::new(move |n| theirs::hold(polygon, &case.points[..5 * n])),
         ),
         edit(
             "rule, Default",
             Box::new(move |n| region.rule(0, &case.points[..5 * n])),
-            Box::new(move |n| theirs::rule(&mut polygon(), 0, &case.points[..5 * n])),
+            Box::new(move |n| theirs::rule(polygon, 0, &case.points[..5 * n])),
         ),
         edit(
             "rule, ControlPointIn",
             Box::new(move |n| region.rule(4, &case.points[..5 * n])),
-            Box::new(move |n| theirs::rule(&mut polygon(), 4, &case.points[..5 * n])),
+            Box::new(move |n| theirs::rule(polygon, 4, &case.points[..5 * n])),
         ),
-        Row {
-            idle: Some(Box::new(copies)),
-            ..edit(COPY, Box::new(copies), Box::new(copies))
-        },
+        copy(COPY, 1024),
+        copy("the same, to the place right behind it", 0),
     ];
     Section {
         title: "Edits at 64 corners",
@@ -270,13 +268,25 @@ fn edits(case: &'static Case) -> Section {
     }
 }
 
-fn copies(n: usize) -> u64 {
-    let from = [7u8; REGION_BYTES];
-    let mut to = [0u8; REGION_BYTES];
-    for _ in 0..n {
-        black_box(&mut to).copy_from_slice(black_box(&from));
+/// A region's bytes, copied to a place that many bytes behind them.
+fn copy(name: &str, gap: usize) -> Row {
+    let run = move || -> Run {
+        Box::new(move |n| {
+            let mut bytes = [7u8; 3 * REGION_BYTES];
+            let (from, rest) = bytes.split_at_mut(REGION_BYTES);
+            for _ in 0..n {
+                black_box(&mut rest[gap..gap + REGION_BYTES]).copy_from_slice(black_box(&*from));
+            }
+            rest[gap].into()
+        })
+    };
+    Row {
+        name: name.into(),
+        ours: run(),
+        beside: Beside::Row(fresh_build()),
+        check: None,
+        idle: Some(run()),
     }
-    to[0].into()
 }
 
 fn files(case: &'static Case) -> Section {

@@ -162,12 +162,13 @@ pub fn afresh(corners: &[Coo3D], flag: bool) -> Polygon {
     Polygon::new_custom_vec3(corners.into(), &method)
 }
 
-/// What the loop over puts answers, by fresh builds.
+/// What the loops over edits answer, by fresh builds.
 pub fn put(corners: &[f64], flag: bool, entries: &[f64]) -> u64 {
-    let (mut given, mut k) = (points(corners), 0);
+    let (given, mut k) = (points(corners), 0);
     entries.chunks_exact(5).fold(0, |sum, p| {
-        given[k] = point(p);
-        let sum = mix_polygon(sum, &afresh(&given, flag), k);
+        let mut changed = given.clone();
+        changed[k] = point(p);
+        let sum = mix_polygon(sum, &afresh(&changed, flag), k);
         k = next(k, given.len());
         sum
     })
@@ -195,40 +196,38 @@ pub fn remove(corners: &[f64], flag: bool, times: usize) -> u64 {
     })
 }
 
-#[inline(never)]
-pub fn turn(polygon: &mut Polygon, times: usize) -> u64 {
+fn mix_flagged(sum: u64, polygon: &Polygon, flag: bool, k: usize) -> u64 {
+    mix_vector(mix(mix(sum, 0), flag.into()), &polygon.cross_products[k])
+}
+
+pub fn turn(polygon: &Polygon, times: usize) -> u64 {
     let mut k = 0;
     (0..times).fold(0, |sum, _| {
-        polygon.contains_south_pole = !polygon.contains_south_pole;
-        let sum = mix_polygon(sum, polygon, k);
+        let sum = mix_flagged(sum, polygon, !polygon.contains_south_pole, k);
         k = next(k, polygon.vertices.len());
         sum
     })
 }
 
-#[inline(never)]
-pub fn hold(polygon: &mut Polygon, entries: &[f64]) -> u64 {
+pub fn hold(polygon: &Polygon, entries: &[f64]) -> u64 {
     let mut k = 0;
     entries.chunks_exact(5).fold(0, |sum, p| {
-        if !polygon.contains(&point(p)) {
-            polygon.contains_south_pole = !polygon.contains_south_pole;
-        }
-        let sum = mix_polygon(sum, polygon, k);
+        let flag = polygon.contains_south_pole == polygon.contains(&point(p));
+        let sum = mix_flagged(sum, polygon, flag, k);
         k = next(k, polygon.vertices.len());
         sum
     })
 }
 
-#[inline(never)]
-pub fn rule(polygon: &mut Polygon, rule: u64, entries: &[f64]) -> u64 {
+pub fn rule(polygon: &Polygon, rule: u64, entries: &[f64]) -> u64 {
     let mut k = 0;
     entries.chunks_exact(5).fold(0, |sum, p| {
         let method = match rule {
             4 => ContainsSouthPoleMethod::ControlPointIn(point(p)),
             _ => ContainsSouthPoleMethod::Default,
         };
-        polygon.contains_south_pole = method.contains_south_pole(polygon);
-        let sum = mix_polygon(sum, polygon, k);
+        let flag = method.contains_south_pole(polygon);
+        let sum = mix_flagged(sum, polygon, flag, k);
         k = next(k, polygon.vertices.len());
         sum
     })

@@ -417,10 +417,10 @@ pub extern "C" fn bench_cone(corners: &[f64], points: &[f64]) -> u64 {
     sum
 }
 
-// Each edit is of the region that the one before it left.
+// Every edit is of the same region.
 #[no_mangle]
 pub extern "C" fn bench_put(corners: &[f64], normals: &[f64], flag: u64, points: &[f64]) -> u64 {
-    let mut region = region_of(corners, normals, flag);
+    let region = region_of(corners, normals, flag);
     let mut k: usize = 0;
     let mut sum: u64 = 0;
     let n = points.len() / 5;
@@ -437,13 +437,11 @@ pub extern "C" fn bench_put(corners: &[f64], normals: &[f64], flag: u64, points:
             mix(mix_outcome(sum, outcome), edited.contains_south_pole as u64),
             v,
         );
-        region = edited;
         k = next(k, edited.count);
     }
     sum
 }
 
-// Each is of the same region.
 #[no_mangle]
 pub extern "C" fn bench_insert(corners: &[f64], normals: &[f64], flag: u64, points: &[f64]) -> u64 {
     let region = region_of(corners, normals, flag);
@@ -491,7 +489,7 @@ pub extern "C" fn bench_remove(corners: &[f64], normals: &[f64], flag: u64, n: u
 
 #[no_mangle]
 pub extern "C" fn bench_turn(corners: &[f64], normals: &[f64], flag: u64, n: usize) -> u64 {
-    let mut region = region_of(corners, normals, flag);
+    let region = region_of(corners, normals, flag);
     let mut k: usize = 0;
     let mut sum: u64 = 0;
     let mut i: usize = 0;
@@ -505,7 +503,6 @@ pub extern "C" fn bench_turn(corners: &[f64], normals: &[f64], flag: u64, n: usi
             mix(mix_outcome(sum, outcome), edited.contains_south_pole as u64),
             v,
         );
-        region = edited;
         k = next(k, edited.count);
     }
     sum
@@ -513,7 +510,7 @@ pub extern "C" fn bench_turn(corners: &[f64], normals: &[f64], flag: u64, n: usi
 
 #[no_mangle]
 pub extern "C" fn bench_hold(corners: &[f64], normals: &[f64], flag: u64, points: &[f64]) -> u64 {
-    let mut region = region_of(corners, normals, flag);
+    let region = region_of(corners, normals, flag);
     let mut k: usize = 0;
     let mut sum: u64 = 0;
     let n = points.len() / 5;
@@ -530,7 +527,6 @@ pub extern "C" fn bench_hold(corners: &[f64], normals: &[f64], flag: u64, points
             mix(mix_outcome(sum, outcome), edited.contains_south_pole as u64),
             v,
         );
-        region = edited;
         k = next(k, edited.count);
     }
     sum
@@ -543,7 +539,7 @@ pub extern "C" fn bench_hold_lent(
     flag: u64,
     points: &[f64],
 ) -> u64 {
-    let mut region = region_of(corners, normals, flag);
+    let region = region_of(corners, normals, flag);
     let mut k: usize = 0;
     let mut sum: u64 = 0;
     let n = points.len() / 5;
@@ -560,7 +556,6 @@ pub extern "C" fn bench_hold_lent(
             mix(mix_outcome(sum, outcome), edited.contains_south_pole as u64),
             v,
         );
-        region = edited;
         k = next(k, edited.count);
     }
     sum
@@ -574,7 +569,7 @@ pub extern "C" fn bench_rule(
     number: u64,
     points: &[f64],
 ) -> u64 {
-    let mut region = region_of(corners, normals, flag);
+    let region = region_of(corners, normals, flag);
     let mut k: usize = 0;
     let mut sum: u64 = 0;
     let n = points.len() / 5;
@@ -591,7 +586,6 @@ pub extern "C" fn bench_rule(
             mix(mix_outcome(sum, outcome), edited.contains_south_pole as u64),
             v,
         );
-        region = edited;
         k = next(k, edited.count);
     }
     sum

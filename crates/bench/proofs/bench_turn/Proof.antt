@@ -5,10 +5,10 @@ use Rattle.bench.proofs.bench_turn.Statement.{statement}
 use Rattle.bench.proofs.bench_turn.Tie as tie
 
 abbrev Inv-loop : tie.InvT-loop
-Inv-loop corners normals flag n region₀ k₀ sum₀ i₀ region k sum i = k < 64
+Inv-loop corners normals flag n region k₀ sum₀ i₀ k sum i = k < 64
 
 abbrev μ-loop : tie.MeasureT-loop
-μ-loop corners normals flag n region₀ k₀ sum₀ i₀ region k sum i = n - i
+μ-loop corners normals flag n region k₀ sum₀ i₀ k sum i = n - i
 
 pub bench-turn-spec : {M : Type 1} → statement M
 bench-turn-spec = tie.close (tie.spec Inv-loop μ-loop (λ c κs. search needs) (λ c. search needs) (λ c. search needs) (λ c κs. search needs) (λ c. search needs) (λ c. search needs) (λ c κs. search needs) (λ c. search needs) (λ c κs. search needs) (λ c κs. search needs) (λ c κs. search needs) (λ c. search needs) (λ c. search needs) (λ c. search needs))
