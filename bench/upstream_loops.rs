@@ -137,7 +137,7 @@ pub fn build(corners: &[f64], entries: &[f64]) -> u64 {
         given[k] = point(p);
         let polygon =
             Polygon::new_custom_vec3(given.clone().into(), &ContainsSouthPoleMethod::Default);
-        let sum = mix_polygon(sum, &polygon, k);
+        let sum = mix_polygon(sum, &polygon, 0);
         k = next(k, given.len());
         sum
     })
@@ -283,7 +283,7 @@ fn polygon_of(file: &[u8]) -> Option<Polygon> {
 
 #[inline(never)]
 pub fn read(files: &[u8], len: usize, times: usize) -> u64 {
-    let (mut k, mut end) = (0, 0);
+    let mut end = 0;
     (0..times).fold(0, |sum, _| {
         end = if len <= files.len() - end {
             end + len
@@ -291,9 +291,7 @@ pub fn read(files: &[u8], len: usize, times: usize) -> u64 {
             len
         };
         let polygon = polygon_of(&files[..end]).unwrap();
-        let sum = mix_polygon(sum, &polygon, k);
-        k = next(k, polygon.vertices.len());
-        sum
+        mix_polygon(sum, &polygon, 0)
     })
 }
 

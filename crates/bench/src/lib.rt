@@ -363,7 +363,7 @@ pub extern "C" fn bench_parallel_all(
     sum
 }
 
-// One corner is another in each build.
+// One corner is another in each build. Of what was built a fixed entry is read: an index would have the caller copy the region.
 #[no_mangle]
 pub extern "C" fn bench_build(corners: &[f64], points: &[f64]) -> u64 {
     let count = corners.len() / 5;
@@ -380,7 +380,7 @@ pub extern "C" fn bench_build(corners: &[f64], points: &[f64]) -> u64 {
         let built = region::build(given, count, ContainsSouthPoleMethod::Default);
         let outcome = built.outcome;
         let region = built.region;
-        let v = region.cross_products[k];
+        let v = region.cross_products[0];
         sum = mix_vector(
             mix(mix_outcome(sum, outcome), region.contains_south_pole as u64),
             v,
@@ -607,7 +607,6 @@ fn end_after(files: &[u8], end: usize, len: usize) -> usize
 // The files stand one behind the other, each of `len` bytes.
 #[no_mangle]
 pub extern "C" fn bench_read(files: &[u8], len: usize, n: usize) -> u64 {
-    let mut k: usize = 0;
     let mut end: usize = 0;
     let mut sum: u64 = 0;
     let mut i: usize = 0;
@@ -617,12 +616,11 @@ pub extern "C" fn bench_read(files: &[u8], len: usize, n: usize) -> u64 {
         let built = region_file::read(&files[..end]);
         let outcome = built.outcome;
         let region = built.region;
-        let v = region.cross_products[k];
+        let v = region.cross_products[0];
         sum = mix_vector(
             mix(mix_outcome(sum, outcome), region.contains_south_pole as u64),
             v,
         );
-        k = next(k, region.count);
     }
     sum
 }
