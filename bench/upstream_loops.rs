@@ -73,7 +73,11 @@ fn mix_first(sum: u64, first: Option<UnitVect3>) -> u64 {
 
 #[inline]
 fn mix_all(sum: u64, all: Vec<UnitVect3>) -> u64 {
-    all.iter().fold(mix(sum, all.len() as u64), mix_vector)
+    let sum = mix(sum, all.len() as u64);
+    match all.first() {
+        Some(p) => mix_vector(sum, p),
+        None => mix_vector(sum, &UnitVect3::new_unsafe(0.0, 0.0, 0.0)),
+    }
 }
 
 #[inline(never)]

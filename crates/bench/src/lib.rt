@@ -57,20 +57,7 @@ fn mix_first(sum: u64, a: FirstAnswer) -> u64 {
     }
 }
 
-fn mix_list(sum: u64, points: [UnitVect3; 64], len: usize) -> u64 {
-    let mut sum = mix(sum, len as u64);
-    let mut i: usize = 0;
-    while i < len {
-        if i >= 64 {
-            return sum;
-        }
-        let p = points[i];
-        sum = mix_unit(sum, p);
-        i += 1;
-    }
-    sum
-}
-
+// Of a list its length and a fixed entry, which is zero where the list is empty: to go through it, a caller copies it.
 fn mix_all(sum: u64, a: AllAnswer) -> u64 {
     let outcome = a.outcome;
     match outcome {
@@ -78,7 +65,8 @@ fn mix_all(sum: u64, a: AllAnswer) -> u64 {
         Outcome::Done => {
             let crossings = a.crossings;
             let points = crossings.points;
-            mix_list(sum, points, crossings.len)
+            let p = points[0];
+            mix_unit(mix(sum, crossings.len as u64), p)
         }
     }
 }
