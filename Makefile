@@ -16,6 +16,7 @@ help:
 	@echo 'make differential  SEED=n COUNT=n: compares that many requests with upstream'
 	@echo 'make lists         SEED=n LISTS=n: compares that many lists of 1 to 200 edits with upstream'
 	@echo 'make bench         measures the calls beside upstream and writes docs/BENCHMARKS.md; no test'
+	@echo 'make bench ROWS=x  prints the times of the rows whose names contain x, and writes nothing'
 	@echo 'make fixed-list    makes the fixed list of crates/replay anew from upstream'
 	@echo 'make setup         installs what is missing, by package name'
 
@@ -52,4 +53,4 @@ fixed-list: setup
 	@tests/fixed-list '$(UPSTREAM)'
 
 bench:
-	@bench/run '$(UPSTREAM)'
+	@bench/run '$(UPSTREAM)' '$(ROWS)'

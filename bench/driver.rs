@@ -2,6 +2,7 @@
 //!
 //!   driver count             under callgrind: a file of instruction counts for each side of each row
 //!   driver measure COUNTS    times and stacks, and the tables; COUNTS has a line for each of those files
+//!   driver rows TEXT         times alone, of the rows whose names contain TEXT
 //!
 //! Nothing here asserts a time. That both sides answer the same is asserted.
 
@@ -24,8 +25,9 @@ fn main() -> ExitCode {
     match words.as_slice() {
         ["count"] => measure::count(&sections),
         ["measure", counts] => report::report(&sections, &measure::read_counts(counts)),
+        ["rows", text] => report::some(&sections, text),
         _ => {
-            eprintln!("usage: driver count, or driver measure COUNTS");
+            eprintln!("usage: driver count, driver measure COUNTS, or driver rows TEXT");
             return ExitCode::from(2);
         }
     }

@@ -154,7 +154,7 @@ pub fn times(rows: &[&Row]) -> Table {
         .collect();
     for row in rows {
         if let Beside::Row(other) = &row.beside {
-            let beside = medians[other].ours;
+            let beside = medians.get(other).map_or(f64::NAN, |of| of.ours);
             medians
                 .entry(row.name.clone())
                 .and_modify(|of| of.beside = beside);

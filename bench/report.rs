@@ -39,6 +39,26 @@ pub fn report(sections: &[Section], counts: &HashMap<String, f64>) {
     }
 }
 
+/// For whoever changes a call: a line for each of some rows.
+pub fn some(sections: &[Section], text: &str) {
+    let rows: Vec<&Row> = sections
+        .iter()
+        .flat_map(|section| &section.rows)
+        .filter(|row| row.name.contains(text))
+        .collect();
+    let times = times(&rows);
+    for row in rows {
+        let time = times[&row.name];
+        println!(
+            "{}: {:.1} beside {:.1}, {:.2}",
+            row.name,
+            time.ours,
+            time.beside,
+            ratio(time)
+        );
+    }
+}
+
 fn ratio(of: Measured) -> f64 {
     of.ours / of.beside
 }
