@@ -2,8 +2,8 @@
 use Prim.Native.Nat.{ℕ, _+_, _-_, _≤_, _<_}
 use native.Mathlib.Omega.{arith}
 use native.Mathlib.Nat.{le-refl}
-use mathlib.Core.Path.{_≡_, refl, sym, ap, subst, _∙_}
-use mathlib.Core.Bool.{Bool, true, false, not, _&&_}
+use mathlib.Core.Path.{_≡_, refl, sym, ap, _∙_}
+use mathlib.Core.Bool.{Bool, true, false, _&&_}
 use lib.Ieee.{Float, lt}
 use mathlib.Core.List.{List, [], _∷_, _++_}
 use lib.ListN.{length, take, drop, getD, set, length-set}
@@ -15,16 +15,17 @@ use Rattle.domain.proofs.Counts.{count-none, count-many, count-few}
 use Rattle.domain.proofs.Points.{soFar, far-start, far-good, far-bad, far-end}
 use Rattle.float.specs.Doubles.{_⊕_, _⊖_, nought, pi, absOf}
 use Rattle.lists.specs.Cyclic.{along}
-use Rattle.refusal.specs.Answer.{Answer, answered, refused, andThen}
+use Rattle.refusal.specs.Answer.{Answer, answered, refused, outcomeOf, andThen}
+use Rattle.refusal.specs.declared.Outcome.{Outcome}
+use Rattle.refusal.specs.declared.Outcome.the-variants as outcome
+use Rattle.refusal.proofs.Answers.{then-assoc}
 use Rattle.region.specs.declared.Region.{Region}
 use Rattle.region.specs.declared.ContainsSouthPoleMethod.{ContainsSouthPoleMethod}
-use Rattle.region.specs.declared.ContainsSouthPoleMethod.the-variants.{Default, DefaultComplement, ContainsSouthPole, DoNotContainsSouthPole, ControlPointIn, ControlPointOut}
 use Rattle.region.specs.Edges.{normalOf}
 use Rattle.region.specs.Poles.{stepOf, basicFrom, basicOf}
 use Rattle.region.specs.View.{View, viewOf, withFlag, normalsOf, made, nowhere}
-use Rattle.region.specs.Region.{controlAt, flagOf, buildOf}
+use Rattle.region.specs.Region.{flagOf, buildOf}
 use Rattle.region.proofs.Corners.{normals-start, normals-turn, normals-done, basic-start, basic-turn, basic-done}
-use Rattle.region.proofs.Flags.{flag-default, flag-complement, flag-set, flag-clear, flag-in, flag-out}
 
 no-zero : {n : ℕ} → (n ≡ 0 → ⊥) → 0 < n
 no-zero h = omega (arith, h)
@@ -144,6 +145,19 @@ built : (l : List Coo3D) (n : ℕ) (rule : ContainsSouthPoleMethod) (cs : List C
 unfolding buildOf
 built l n rule cs w d e p q = rw (q, p, sym e)
 
+-- the flag and the outcome that a decision stands for, beside a region
+pub settled : (a : Answer Bool) (b : Bool) (o : Outcome) (v : View) → andThen a (λ f. answered b) ≡ a → outcomeOf o true ≡ andThen a (λ f. answered true) → outcomeOf o (withFlag v b) ≡ andThen a (λ f. answered (withFlag v f))
+settled a b o v e h =
+    beside o (withFlag v b)
+    ∙ ap (λ (x : Answer Bool). andThen x (λ f. answered (withFlag v b))) h
+    ∙ then-assoc a (λ f. answered true) (λ f. answered (withFlag v b))
+    ∙ sym (then-assoc a (λ f. answered b) (λ f. answered (withFlag v f)))
+    ∙ ap (λ (x : Answer Bool). andThen x (λ f. answered (withFlag v f))) e
+  where
+    beside : (o : Outcome) (w : View) → outcomeOf o w ≡ andThen (outcomeOf o true) (λ f. answered w)
+    beside outcome.Done w = refl
+    beside (outcome.Refused cause) w = refl
+
 module _ {points : List Coo3D} {count i k : ℕ} {r₀ r : Region} {from : Coo3D} {sum z : Float} (first : Checking points count r₀ i) (second : Working (r₀ .vertices) count r from sum z k)
     (full : length points ≡ 64) (some : count ≡ 0 → ⊥) (few : count ≤ 64) (passed : count ≤ i) (passed′ : count ≤ k) where
   long : count ≤ length (r₀ .vertices)
@@ -156,41 +170,9 @@ module _ {points : List Coo3D} {count i k : ℕ} {r₀ r : Region} {from : Coo3D
       let normals : take count (r .«cross_products») ≡ normalsOf (take count (r₀ .vertices)) = sym (normals-done (r₀ .vertices) count from (r .«cross_products») k long at) ∙ second .so-far in
       rw (second .counted, second .same, second .clear, normals, length-take-le count (r₀ .vertices) long)
 
-  pub basic-is : (size : Float) → size ≡ absOf sum → (lt pi size && lt z nought) ≡ basicOf (take count (r₀ .vertices))
-  basic-is size e = rw e (sym (basic-done (r₀ .vertices) count sum z from k long passed′) ∙ second .sums)
-
-  pub in-range : (0 < r .count) × (r .count ≤ 64)
-  in-range = subst (λ (n : ℕ). (0 < n) × (n ≤ 64)) (sym (second .counted)) (no-zero some, few)
+  -- what the choice of the flag asks for
+  pub in-range : (size : Float) → size ≡ absOf sum → (0 < r .count) × (r .count ≤ 64) × ((lt pi size && lt z nought) ≡ basicOf (take (r .count) (r .vertices)))
+  in-range size e = rw (second .counted, second .same) (no-zero some, few, rw e (sym (basic-done (r₀ .vertices) count sum z from k long passed′) ∙ second .sums))
 
   pub ends : (rule : ContainsSouthPoleMethod) (d : Answer Bool) → d ≡ flagOf (viewOf r) rule → andThen d (λ f. answered (withFlag (viewOf r) f)) ≡ buildOf points count rule
   ends rule d q = built points count rule (take count (r₀ .vertices)) (viewOf r) d (checked first full some few passed) as-made q
-
-  none : (viewOf r) .count ≡ 0 → ⊥
-  none z = some (sym (second .counted) ∙ z)
-
-  fits : (viewOf r) .count ≤ 64
-  fits = in-range .1
-
-  corners-are : (viewOf r) .corners ≡ take count (r₀ .vertices)
-  corners-are = rw (second .counted, second .same)
-
-  pub by-default : (b : Bool) → b ≡ basicOf (take count (r₀ .vertices)) → answered (withFlag (viewOf r) b) ≡ buildOf points count Default
-  by-default b e = ends Default (answered b) (sym (flag-default (viewOf r) none fits ∙ rw (corners-are, sym e)))
-
-  pub by-complement : (b : Bool) → b ≡ basicOf (take count (r₀ .vertices)) → answered (withFlag (viewOf r) (not b)) ≡ buildOf points count DefaultComplement
-  by-complement b e = ends DefaultComplement (answered (not b)) (sym (flag-complement (viewOf r) none fits ∙ rw (corners-are, sym e)))
-
-  pub by-set : answered (withFlag (viewOf r) true) ≡ buildOf points count ContainsSouthPole
-  by-set = ends ContainsSouthPole (answered true) (sym (flag-set (viewOf r) none fits))
-
-  pub by-clear : answered (withFlag (viewOf r) false) ≡ buildOf points count DoNotContainsSouthPole
-  by-clear = ends DoNotContainsSouthPole (answered false) (sym (flag-clear (viewOf r) none fits))
-
-  pub by-in : (p : Coo3D) (d : Answer Bool) → d ≡ controlAt (viewOf r) p true → andThen d (λ f. answered (withFlag (viewOf r) f)) ≡ buildOf points count (ControlPointIn p)
-  by-in p d e = ends (ControlPointIn p) d (e ∙ sym (flag-in (viewOf r) none fits p))
-
-  pub by-out : (p : Coo3D) (d : Answer Bool) → d ≡ controlAt (viewOf r) p false → andThen d (λ f. answered (withFlag (viewOf r) f)) ≡ buildOf points count (ControlPointOut p)
-  by-out p d e = ends (ControlPointOut p) d (e ∙ sym (flag-out (viewOf r) none fits p))
-
-  pub as-clear : answered (viewOf r) ≡ answered (withFlag (viewOf r) false)
-  as-clear = rw (second .clear)

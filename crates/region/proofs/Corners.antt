@@ -1,9 +1,9 @@
 -- Laws for loops that pass the corners in order, `from` being the one before: normals and `Basic`.
 use Prim.Native.Nat.{ℕ, _+_, _-_, _≤_, _<_}
 use native.Mathlib.Omega.{arith}
-use mathlib.Core.Path.{_≡_, sym, ap, _∙_}
-use mathlib.Core.Bool.{Bool, _&&_}
-use mathlib.Core.List.{List, [], _∷_, _++_, append-nil}
+use mathlib.Core.Path.{_≡_, sym, ap}
+use mathlib.Core.Bool.{_&&_}
+use mathlib.Core.List.{List, _++_, append-nil}
 use lib.Ieee.{Float, lt}
 use lib.ListN.{length, take, drop, getD, set}
 use Rattle.coo3d.specs.declared.Coo3D.{Coo3D}

@@ -2,7 +2,7 @@
 use Prim.Native.Nat.{ℕ, zero, suc, _+_, _-_, _≤_, _<_}
 use native.Mathlib.Nat.{le-of-suc-le-suc, not-suc-le-zero}
 use native.Mathlib.Omega.{arith}
-use mathlib.Core.Path.{_≡_, refl, sym, ap, _∙_}
+use mathlib.Core.Path.{_≡_, refl, ap, _∙_}
 use mathlib.Core.List.{List, [], _∷_}
 use lib.Ieee.{nan}
 use lib.ListN.{length, take, drop, getD, length-take}
@@ -32,13 +32,17 @@ last-take l n d e some long =
 unfoldable pub edgesLeft : Region → Coo3D → ℕ → List Edge
 edgesLeft r from i = edgesFrom from (drop i (take (r .count) (r .vertices))) (drop i (take (r .count) (r .«cross_products»)))
 
+-- the edge at index i, where `from` is the corner before it
+abbrev pub edgeAt : Region → Coo3D → ℕ → Edge
+edgeAt r from i = record { from = from; to = getD (r .vertices) i nowhere; normal = getD (r .«cross_products») i nothing }
+
 module _ (r : Region) where
   -- the loop starts at the last corner
   pub start : 0 < r .count → r .count ≤ length (r .vertices) → edgesOf (viewOf r) ≡ edgesLeft r (getD (r .vertices) (r .count - 1) nowhere) 0
   unfolding edgesOf edgesLeft
   start some long = ap (λ (c : Coo3D). edgesFrom c (take (r .count) (r .vertices)) (take (r .count) (r .«cross_products»))) (last-take (r .vertices) (r .count) nowhere nowhere some long)
 
-  pub turn : (from : Coo3D) (i : ℕ) → r .count ≤ length (r .vertices) → r .count ≤ length (r .«cross_products») → i < r .count → edgesLeft r from i ≡ record { from = from; to = getD (r .vertices) i nowhere; normal = getD (r .«cross_products») i nothing } ∷ edgesLeft r (getD (r .vertices) i nowhere) (i + 1)
+  pub turn : (from : Coo3D) (i : ℕ) → r .count ≤ length (r .vertices) → r .count ≤ length (r .«cross_products») → i < r .count → edgesLeft r from i ≡ edgeAt r from i ∷ edgesLeft r (getD (r .vertices) i nowhere) (i + 1)
   unfolding edgesLeft edgesFrom
   turn from i long long' below = rw (next-left (r .vertices) (r .count) i nowhere long below, next-left (r .«cross_products») (r .count) i nothing long' below)
 

@@ -1,5 +1,6 @@
 -- What `flagOf` is for each rule, where the count is 1 to 64.
-use Prim.Native.Nat.{_≤_}
+use Prim.Native.Nat.{ℕ, _≤_, _<_}
+use native.Mathlib.Omega.{arith}
 use mathlib.Core.Path.{_≡_, refl, ap, _∙_}
 use mathlib.Core.Bool.{Bool, true, false, not}
 use Rattle.coo3d.specs.declared.Coo3D.{Coo3D}
@@ -19,6 +20,9 @@ one-true false = refl
 one-false : (a : Bool) → a ≡ exactlyOne a false
 one-false true = refl
 one-false false = refl
+
+pub some : {n : ℕ} → 0 < n → n ≡ 0 → ⊥
+some h e = omega (arith, h, e)
 
 module _ (v : View) (some : v .count ≡ 0 → ⊥) (few : v .count ≤ 64) where
   pub flag-default : flagOf v Default ≡ answered (basicOf (v .corners))

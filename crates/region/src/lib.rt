@@ -1,10 +1,11 @@
 // Regions: polygons on the sphere with a pole flag, how they are built, and which points they contain. Upstream: `Polygon` in src/sph_geom/mod.rs.
 ghost use mathlib.Core.Path.{_≡_};
+ghost use mathlib.Core.Bool.{true};
 ghost use Prim.Native.Nat.{_≤_, _<_};
 ghost use lib.ListN.{take};
 ghost use Rattle.refusal.specs.Answer.{answered, refusedFor, outcomeOf, decisionAnswer, andThen};
 ghost use Rattle.region.specs.Edges.{Edge, normalOf, inLonRange, isCounted};
-ghost use Rattle.region.specs.View.{viewOf, withFlag};
+ghost use Rattle.region.specs.View.{viewOf};
 ghost use Rattle.region.specs.Region.{controlAt, flagOf, buildOf, containsOf};
 ghost use Rattle.region.specs.Poles.{stepOf, basicOf};
 use coo3d::Coo3D;
@@ -99,7 +100,8 @@ fn basic(vertices: [Coo3D; 64], count: usize) -> bool
     (float::abs(sum_delta_lon) > float::PI) & (gravity_center_z < 0.0)
 }
 
-// The edges are passed here and not in a helper, which would copy the region.
+// The edges are passed here and not in a helper, which would copy the region. The normals are copied once an edge is in range, and a point in no
+// edge's range needs none of them.
 pub fn contains(r: Region, coo: Coo3D) -> Decision
     ensures { λ d. ⌜ decisionAnswer d ≡ containsOf (viewOf r) coo ⌝ }
 {
@@ -113,14 +115,30 @@ pub fn contains(r: Region, coo: Coo3D) -> Decision
     let PointCheck::Point(p) = domain::check_point(coo, 0) else {
         return Decision::Refused(Cause::OutsideDomain(0));
     };
-    let last = count - 1;
-    let mut from = r.vertices[last];
     let mut is_inside = r.contains_south_pole;
+    let vertices = r.vertices;
+    let last = count - 1;
+    let mut from = vertices[last];
     let mut i: usize = 0;
     while i < count {
-        let to = r.vertices[i];
-        let n = r.cross_products[i];
-        is_inside = is_inside != is_counted(p, from, to, n);
+        let to = vertices[i];
+        if is_in_lon_range(p, from, to) {
+            break;
+        }
+        from = to;
+        i += 1;
+    }
+    if i == count {
+        return refusal::decide(is_inside);
+    }
+    let v = p.to_vect3();
+    let normals = r.cross_products;
+    while i < count {
+        let to = vertices[i];
+        if is_in_lon_range(p, from, to) {
+            let n = normals[i];
+            is_inside = is_inside != (coo3d::dot_product(v, n) > 0.0);
+        }
         from = to;
         i += 1;
     }
@@ -140,6 +158,21 @@ fn flag_for_control_point(r: Region, control_point: Coo3D, is_in: bool) -> Decis
     }
 }
 
+// The flag that the rule sets, where `Basic` is known of the corners.
+fn flag_by_rule(r: Region, is_basic: bool, method: ContainsSouthPoleMethod) -> Decision
+    requires { ⌜ (0 < r .count) × (r .count ≤ 64) × («is_basic» ≡ basicOf (take (r .count) (r .vertices))) ⌝ }
+    ensures { λ d. ⌜ decisionAnswer d ≡ flagOf (viewOf r) method ⌝ }
+{
+    match method {
+        ContainsSouthPoleMethod::Default => refusal::decide(is_basic),
+        ContainsSouthPoleMethod::DefaultComplement => refusal::decide(!is_basic),
+        ContainsSouthPoleMethod::ContainsSouthPole => Decision::Yes,
+        ContainsSouthPoleMethod::DoNotContainsSouthPole => Decision::No,
+        ContainsSouthPoleMethod::ControlPointIn(p) => flag_for_control_point(r, p, true),
+        ContainsSouthPoleMethod::ControlPointOut(p) => flag_for_control_point(r, p, false),
+    }
+}
+
 // The flag that the rule sets for a region of these corners and normals. A control point is numbered by the count.
 pub fn contains_south_pole(r: Region, method: ContainsSouthPoleMethod) -> Decision
     ensures { λ d. ⌜ decisionAnswer d ≡ flagOf (viewOf r) method ⌝ }
@@ -151,20 +184,8 @@ pub fn contains_south_pole(r: Region, method: ContainsSouthPoleMethod) -> Decisi
     if count > 64 {
         return Decision::Refused(Cause::TooManyPoints);
     }
-    match method {
-        ContainsSouthPoleMethod::Default => {
-            let vertices = r.vertices;
-            refusal::decide(basic(vertices, count))
-        }
-        ContainsSouthPoleMethod::DefaultComplement => {
-            let vertices = r.vertices;
-            refusal::decide(!basic(vertices, count))
-        }
-        ContainsSouthPoleMethod::ContainsSouthPole => Decision::Yes,
-        ContainsSouthPoleMethod::DoNotContainsSouthPole => Decision::No,
-        ContainsSouthPoleMethod::ControlPointIn(p) => flag_for_control_point(r, p, true),
-        ContainsSouthPoleMethod::ControlPointOut(p) => flag_for_control_point(r, p, false),
-    }
+    let vertices = r.vertices;
+    flag_by_rule(r, basic(vertices, count), method)
 }
 
 // A refused build; its region is free.
@@ -194,26 +215,24 @@ pub fn refused(cause: Cause) -> Built
     }
 }
 
-// The region with this flag.
-fn made(r: Region, flag: bool) -> Built
-    ensures { λ b. ⌜ outcomeOf (b .outcome) (viewOf (b .region)) ≡ answered (withFlag (viewOf r) flag) ⌝ }
+// The flag that was decided, free where it was refused, and the outcome beside it. So a build has one exit: each would copy the region.
+fn is_yes(flag: Decision) -> bool
+    ensures { λ b. ⌜ andThen (decisionAnswer flag) (λ f. answered b) ≡ decisionAnswer flag ⌝ }
 {
-    let mut region = r;
-    region.contains_south_pole = flag;
-    Built {
-        region,
-        outcome: Outcome::Done,
+    match flag {
+        Decision::Yes => true,
+        Decision::No => false,
+        Decision::Refused(_) => false,
     }
 }
 
-// The region with the flag that was decided.
-fn flagged(r: Region, flag: Decision) -> Built
-    ensures { λ b. ⌜ outcomeOf (b .outcome) (viewOf (b .region)) ≡ andThen (decisionAnswer flag) (λ f. answered (withFlag (viewOf r) f)) ⌝ }
+fn outcome_of(flag: Decision) -> Outcome
+    ensures { λ o. ⌜ outcomeOf o true ≡ andThen (decisionAnswer flag) (λ f. answered true) ⌝ }
 {
     match flag {
-        Decision::Yes => made(r, true),
-        Decision::No => made(r, false),
-        Decision::Refused(cause) => refused(cause),
+        Decision::Yes => Outcome::Done,
+        Decision::No => Outcome::Done,
+        Decision::Refused(cause) => Outcome::Refused(cause),
     }
 }
 
@@ -263,37 +282,8 @@ pub fn build(points: [Coo3D; 64], count: usize, method: ContainsSouthPoleMethod)
         k += 1;
     }
     let is_basic = (float::abs(sum_lon) > float::PI) & (sum_z < 0.0);
-    match method {
-        ContainsSouthPoleMethod::Default => {
-            region.contains_south_pole = is_basic;
-            Built {
-                region,
-                outcome: Outcome::Done,
-            }
-        }
-        ContainsSouthPoleMethod::DefaultComplement => {
-            region.contains_south_pole = !is_basic;
-            Built {
-                region,
-                outcome: Outcome::Done,
-            }
-        }
-        ContainsSouthPoleMethod::ContainsSouthPole => {
-            region.contains_south_pole = true;
-            Built {
-                region,
-                outcome: Outcome::Done,
-            }
-        }
-        ContainsSouthPoleMethod::DoNotContainsSouthPole => Built {
-            region,
-            outcome: Outcome::Done,
-        },
-        ContainsSouthPoleMethod::ControlPointIn(p) => {
-            flagged(region, flag_for_control_point(region, p, true))
-        }
-        ContainsSouthPoleMethod::ControlPointOut(p) => {
-            flagged(region, flag_for_control_point(region, p, false))
-        }
-    }
+    let flag = flag_by_rule(region, is_basic, method);
+    region.contains_south_pole = is_yes(flag);
+    let outcome = outcome_of(flag);
+    Built { region, outcome }
 }

@@ -4,8 +4,8 @@ use mathlib.Core.Path.{_≡_, refl, sym, ap, _∙_}
 use lib.ListN.{length}
 use borrow.Author.Needs.{needs}
 use Rattle.domain.specs.Checks.{pointAnswer}
-use Rattle.region.specs.Region.{buildOf}
-use Rattle.region.proofs.Building.{Checking, checking-starts, checking-good, checking-bad, Working, working-starts, working-turn, passed-on, no-points, many-points, basic-is, in-range, by-default, by-complement, by-set, by-clear, by-in, by-out, as-clear}
+use Rattle.region.specs.View.{viewOf}
+use Rattle.region.proofs.Building.{Checking, checking-starts, checking-good, checking-bad, Working, working-starts, working-turn, passed-on, no-points, many-points, in-range, ends, settled}
 use Rattle.region.proofs.build.Statement.{statement}
 use Rattle.region.proofs.build.Tie as tie
 
@@ -122,73 +122,22 @@ loop2-again c = working-turn (c .before .before .before .before .before .before 
 abs-requires : tie.Need-abs-requires Inv-loop μ-loop Inv-loop2 μ-loop2
 abs-requires c κs = search needs
 
-enum-told-2 : tie.Need-enum-told-2 Inv-loop μ-loop Inv-loop2 μ-loop2
-enum-told-2 c = search needs
+flag-by-rule-requires : tie.Need-flag-by-rule-requires Inv-loop μ-loop Inv-loop2 μ-loop2
+flag-by-rule-requires c κs =
+    let e : length (c .before .before .before .before .before .before .before .before .args .points) ≡ 64 = search needs in
+    in-range (c .before .before .before .before .before .loop .inv) (c .before .before .loop2 .inv) e (c .before .before .before .before .before .before .before .if1 .left) (c .before .before .before .before .before .before .if2 .left) (c .before .before .before .before .loop-test .left) (c .before .loop2-test .left) _ (c .abs .ensures)
 
-enum-told-3 : tie.Need-enum-told-3 Inv-loop μ-loop Inv-loop2 μ-loop2
-enum-told-3 c = search needs
+is-yes-requires : tie.Need-is-yes-requires Inv-loop μ-loop Inv-loop2 μ-loop2
+is-yes-requires c κs = search needs
 
-enum-told-4 : tie.Need-enum-told-4 Inv-loop μ-loop Inv-loop2 μ-loop2
-enum-told-4 c = search needs
-
-enum-told-5 : tie.Need-enum-told-5 Inv-loop μ-loop Inv-loop2 μ-loop2
-enum-told-5 c = search needs
-
-enum-known-method : tie.Need-enum-known-method Inv-loop μ-loop Inv-loop2 μ-loop2
-enum-known-method c = search needs
-
-flag-for-control-point-requires :
-    tie.Need-flag-for-control-point-requires Inv-loop μ-loop Inv-loop2 μ-loop2
-flag-for-control-point-requires c κs = let e : length (c .before .before .before .before .before .before .before .before .before .before .before .args .points) ≡ 64 = search needs in in-range (c .before .before .before .before .before .before .before .before .loop .inv) (c .before .before .before .before .before .loop2 .inv) e (c .before .before .before .before .before .before .before .before .before .before .if1 .left) (c .before .before .before .before .before .before .before .before .before .if2 .left) (c .before .before .before .before .before .before .before .loop-test .left) (c .before .before .before .before .loop2-test .left)
-
-flagged-requires : tie.Need-flagged-requires Inv-loop μ-loop Inv-loop2 μ-loop2
-flagged-requires c κs = search needs
-
-enum-known-method-2 : tie.Need-enum-known-method-2 Inv-loop μ-loop Inv-loop2 μ-loop2
-enum-known-method-2 c = search needs
-
-flag-for-control-point-requires-2 :
-    tie.Need-flag-for-control-point-requires-2 Inv-loop μ-loop Inv-loop2 μ-loop2
-flag-for-control-point-requires-2 c κs = let e : length (c .before .before .before .before .before .before .before .before .before .before .before .args .points) ≡ 64 = search needs in in-range (c .before .before .before .before .before .before .before .before .loop .inv) (c .before .before .before .before .before .loop2 .inv) e (c .before .before .before .before .before .before .before .before .before .before .if1 .left) (c .before .before .before .before .before .before .before .before .before .if2 .left) (c .before .before .before .before .before .before .before .loop-test .left) (c .before .before .before .before .loop2-test .left)
-
-flagged-requires-2 : tie.Need-flagged-requires-2 Inv-loop μ-loop Inv-loop2 μ-loop2
-flagged-requires-2 c κs = search needs
+outcome-of-requires : tie.Need-outcome-of-requires Inv-loop μ-loop Inv-loop2 μ-loop2
+outcome-of-requires c κs = search needs
 
 returns-4 : tie.Need-returns-4 Inv-loop μ-loop Inv-loop2 μ-loop2
 returns-4 c =
-    let a = c .before .before .before .before .before .before .before .before .before .before .args in
-    let e : length (a .points) ≡ 64 = search needs in
-    by-default (c .before .before .before .before .before .before .before .loop .inv) (c .before .before .before .before .loop2 .inv) e (c .before .before .before .before .before .before .before .before .before .if1 .left) (c .before .before .before .before .before .before .before .before .if2 .left) (c .before .before .before .before .before .before .loop-test .left) (c .before .before .before .loop2-test .left) _ (basic-is (c .before .before .before .before .before .before .before .loop .inv) (c .before .before .before .before .loop2 .inv) e (c .before .before .before .before .before .before .before .before .before .if1 .left) (c .before .before .before .before .before .before .before .before .if2 .left) (c .before .before .before .before .before .before .loop-test .left) (c .before .before .before .loop2-test .left) _ (c .before .before .abs .ensures)) ∙ ap (buildOf (a .points) (a .count)) (sym (c .enum-told2 .given .1))
-
-returns-5 : tie.Need-returns-5 Inv-loop μ-loop Inv-loop2 μ-loop2
-returns-5 c =
-    let a = c .before .before .before .before .before .before .before .before .before .before .args in
-    let e : length (a .points) ≡ 64 = search needs in
-    by-complement (c .before .before .before .before .before .before .before .loop .inv) (c .before .before .before .before .loop2 .inv) e (c .before .before .before .before .before .before .before .before .before .if1 .left) (c .before .before .before .before .before .before .before .before .if2 .left) (c .before .before .before .before .before .before .loop-test .left) (c .before .before .before .loop2-test .left) _ (basic-is (c .before .before .before .before .before .before .before .loop .inv) (c .before .before .before .before .loop2 .inv) e (c .before .before .before .before .before .before .before .before .before .if1 .left) (c .before .before .before .before .before .before .before .before .if2 .left) (c .before .before .before .before .before .before .loop-test .left) (c .before .before .before .loop2-test .left) _ (c .before .before .abs .ensures)) ∙ ap (buildOf (a .points) (a .count)) (sym (c .enum-told3 .given .1))
-
-returns-6 : tie.Need-returns-6 Inv-loop μ-loop Inv-loop2 μ-loop2
-returns-6 c =
-    let a = c .before .before .before .before .before .before .before .before .before .before .args in
-    let e : length (a .points) ≡ 64 = search needs in
-    by-set (c .before .before .before .before .before .before .before .loop .inv) (c .before .before .before .before .loop2 .inv) e (c .before .before .before .before .before .before .before .before .before .if1 .left) (c .before .before .before .before .before .before .before .before .if2 .left) (c .before .before .before .before .before .before .loop-test .left) (c .before .before .before .loop2-test .left) ∙ ap (buildOf (a .points) (a .count)) (sym (c .enum-told4 .given .1))
-
-returns-7 : tie.Need-returns-7 Inv-loop μ-loop Inv-loop2 μ-loop2
-returns-7 c =
-    let a = c .before .before .before .before .before .before .before .before .before .before .args in
-    let e : length (a .points) ≡ 64 = search needs in
-    as-clear (c .before .before .before .before .before .before .before .loop .inv) (c .before .before .before .before .loop2 .inv) e (c .before .before .before .before .before .before .before .before .before .if1 .left) (c .before .before .before .before .before .before .before .before .if2 .left) (c .before .before .before .before .before .before .loop-test .left) (c .before .before .before .loop2-test .left) ∙ by-clear (c .before .before .before .before .before .before .before .loop .inv) (c .before .before .before .before .loop2 .inv) e (c .before .before .before .before .before .before .before .before .before .if1 .left) (c .before .before .before .before .before .before .before .before .if2 .left) (c .before .before .before .before .before .before .loop-test .left) (c .before .before .before .loop2-test .left) ∙ ap (buildOf (a .points) (a .count)) (sym (c .enum-told5 .given .1))
-
-returns-8 : tie.Need-returns-8 Inv-loop μ-loop Inv-loop2 μ-loop2
-returns-8 c =
-    let a = c .before .before .before .before .before .before .before .before .before .before .before .before .before .args in
-    let e : length (a .points) ≡ 64 = search needs in
-    c .flagged .ensures ∙ by-in (c .before .before .before .before .before .before .before .before .before .before .loop .inv) (c .before .before .before .before .before .before .before .loop2 .inv) e (c .before .before .before .before .before .before .before .before .before .before .before .before .if1 .left) (c .before .before .before .before .before .before .before .before .before .before .before .if2 .left) (c .before .before .before .before .before .before .before .before .before .loop-test .left) (c .before .before .before .before .before .before .loop2-test .left) _ _ (c .before .flag-for-control-point .ensures) ∙ ap (buildOf (a .points) (a .count)) (sym (c .before .before .before .method .given .1))
-
-returns-9 : tie.Need-returns-9 Inv-loop μ-loop Inv-loop2 μ-loop2
-returns-9 c =
-    let a = c .before .before .before .before .before .before .before .before .before .before .before .before .before .args in
-    let e : length (a .points) ≡ 64 = search needs in
-    c .flagged2 .ensures ∙ by-out (c .before .before .before .before .before .before .before .before .before .before .loop .inv) (c .before .before .before .before .before .before .before .loop2 .inv) e (c .before .before .before .before .before .before .before .before .before .before .before .before .if1 .left) (c .before .before .before .before .before .before .before .before .before .before .before .if2 .left) (c .before .before .before .before .before .before .before .before .before .loop-test .left) (c .before .before .before .before .before .before .loop2-test .left) _ _ (c .before .flag-for-control-point2 .ensures) ∙ ap (buildOf (a .points) (a .count)) (sym (c .before .before .before .method2 .given .1))
+    let e : length (c .before .before .before .before .before .before .before .before .before .before .before .args .points) ≡ 64 = search needs in
+    settled _ _ (c .outcome-of .result) (viewOf (c .before .before .before .before .before .loop2 .region)) (c .before .is-yes .ensures) (c .outcome-of .ensures)
+    ∙ ends (c .before .before .before .before .before .before .before .before .loop .inv) (c .before .before .before .before .before .loop2 .inv) e (c .before .before .before .before .before .before .before .before .before .before .if1 .left) (c .before .before .before .before .before .before .before .before .before .if2 .left) (c .before .before .before .before .before .before .before .loop-test .left) (c .before .before .before .before .loop2-test .left) _ _ (c .before .before .flag-by-rule .ensures)
 
 pub build-spec : {M : Type 1} → statement M
 build-spec =
@@ -229,19 +178,7 @@ build-spec =
     loop2-less
     loop2-again
     abs-requires
-    enum-told-2
-    enum-told-3
-    enum-told-4
-    enum-told-5
-    enum-known-method
-    flag-for-control-point-requires
-    flagged-requires
-    enum-known-method-2
-    flag-for-control-point-requires-2
-    flagged-requires-2
-    returns-4
-    returns-5
-    returns-6
-    returns-7
-    returns-8
-    returns-9)
+    flag-by-rule-requires
+    is-yes-requires
+    outcome-of-requires
+    returns-4)

@@ -1,23 +1,28 @@
 -- `region::contains` meets its contract. Assumes nothing.
-use Prim.Native.Nat.{ℕ, _-_, _≤_}
+use Prim.Native.Nat.{ℕ, _+_, _-_, _≤_, _<_}
 use native.Mathlib.Omega.{arith}
-use mathlib.Core.Path.{_≡_, sym, ap, _∙_}
-use mathlib.Core.Bool.{Bool}
+use mathlib.Core.Path.{_≡_, refl, sym, ap, _∙_}
+use mathlib.Core.Bool.{Bool, true, false}
+use mathlib.Core.Logic.{inl, inr}
 use mathlib.Core.List.{List, [], _∷_}
-use lib.ListN.{length}
+use lib.Ieee.{Float, lt}
+use lib.ListN.{length, getD}
 use borrow.Author.Needs.{needs}
 use Rattle.coo3d.specs.declared.Coo3D.{Coo3D}
+use Rattle.coo3d.specs.declared.Vect3.{Vect3}
+use Rattle.coo3d.specs.Vectors.{vectOfPoint, dotOf}
+use Rattle.float.specs.Doubles.{nought}
 use Rattle.domain.specs.Checks.{pointAnswer, pointAt}
 use Rattle.domain.proofs.Counts.{count-none, count-many, count-few}
 use Rattle.domain.proofs.Points.{point-refused}
 use Rattle.refusal.specs.Answer.{answered, refused}
 use Rattle.region.specs.declared.Region.{Region}
-use Rattle.region.specs.Edges.{Edge, isCounted}
-use Rattle.region.specs.View.{View, viewOf, exactlyOne, oddMany, oddAt, contained, edgesOf}
+use Rattle.region.specs.Edges.{Edge, inLonRange, isCounted}
+use Rattle.region.specs.View.{View, viewOf, nowhere, exactlyOne, oddMany, oddAt, contained, edgesOf}
 use Rattle.region.specs.Region.{containsOf}
 use Rattle.region.proofs.Lengths.{unmap}
-use Rattle.region.proofs.Edges.{edgesLeft, start, turn, done}
-use Rattle.region.proofs.Odd.{odd-turn, odd-done}
+use Rattle.region.proofs.Edges.{edgesLeft, edgeAt, start, turn, done}
+use Rattle.region.proofs.Odd.{odd-turn, odd-done, one-false}
 use Rattle.region.proofs.contains.Statement.{statement}
 use Rattle.region.proofs.contains.Tie as tie
 
@@ -34,95 +39,177 @@ started : (p : Coo3D) (r : Region) (es : List Edge) → edgesOf (viewOf r) ≡ e
 unfolding contained oddAt
 started p r es e = rw e
 
+-- an edge is passed, and the flag goes on as the edge says
+passed : (p : Coo3D) (r : Region) (odd odd' : Bool) (from : Coo3D) (i : ℕ) → r .count ≤ length (r .vertices) → r .count ≤ length (r .«cross_products») → i < r .count → odd' ≡ exactlyOne odd (isCounted p (edgeAt r from i)) → exactlyOne odd' (oddMany (isCounted p) (edgesLeft r (getD (r .vertices) i nowhere) (i + 1))) ≡ exactlyOne odd (oddMany (isCounted p) (edgesLeft r from i))
+passed p r odd odd' from i long long' below e =
+    rw (e) (sym (odd-turn (isCounted p) odd (edgeAt r from i) _)) ∙ ap (λ (es : List Edge). exactlyOne odd (oddMany (isCounted p) es)) (sym (turn r from i long long' below))
+
+all-passed : (p : Coo3D) (r : Region) (odd : Bool) (from : Coo3D) (i : ℕ) → r .count ≤ length (r .vertices) → r .count ≤ i → odd ≡ exactlyOne odd (oddMany (isCounted p) (edgesLeft r from i))
+all-passed p r odd from i long over = sym (odd-done (isCounted p) odd) ∙ ap (λ (es : List Edge). exactlyOne odd (oddMany (isCounted p) es)) (sym (done r from i long over))
+
+out-of-range : (p : Coo3D) (e : Edge) (odd : Bool) → inLonRange (p .lon) (e .from .lon) (e .to .lon) ≡ false → odd ≡ exactlyOne odd (isCounted p e)
+unfolding isCounted
+out-of-range p e odd h = rw h (sym (one-false odd))
+
+in-range-there : (p : Coo3D) (e : Edge) (odd : Bool) (v : Vect3) (d : Float) → inLonRange (p .lon) (e .from .lon) (e .to .lon) ≡ true → v ≡ vectOfPoint p → d ≡ dotOf v (e .normal) → exactlyOne odd (lt nought d) ≡ exactlyOne odd (isCounted p e)
+unfolding isCounted
+in-range-there p e odd v d h i j = rw (h, sym i, j)
+
 long : (n m : ℕ) → m ≡ 64 → n ≤ 64 → n ≤ m
 long n m e h = omega (arith, e, h)
 
+abbrev whole : ℕ → List Coo3D → List Vect3 → Region
+whole n vs ns = record { vertices = vs; «cross_products» = ns; count = n; «contains_south_pole» = false }
+
 abbrev Inv-loop : tie.InvT-loop
-Inv-loop r count p last from₀ is-inside₀ i₀ from is-inside i = (i ≤ r .count) × (exactlyOne is-inside (oddMany (isCounted p) (edgesLeft r from i)) ≡ contained p (viewOf r))
+Inv-loop r count p is-inside vertices last from₀ i₀ from i = (i ≤ r .count) × (exactlyOne (r .«contains_south_pole») (oddMany (isCounted p) (edgesLeft r from i)) ≡ contained p (viewOf r))
 
 abbrev μ-loop : tie.MeasureT-loop
-μ-loop r count p last from₀ is-inside₀ i₀ from is-inside i = r .count - i
+μ-loop r count p is-inside vertices last from₀ i₀ from i = r .count - i
 
-returns : tie.Need-returns Inv-loop μ-loop
+abbrev Inv-loop2 : tie.InvT-loop2
+Inv-loop2 count p is-inside₀ vertices last from₀ i₀ v normals is-inside from i = (i ≤ count) × (exactlyOne is-inside (oddMany (isCounted p) (edgesLeft (whole count vertices normals) from i)) ≡ exactlyOne is-inside₀ (oddMany (isCounted p) (edgesLeft (whole count vertices normals) from₀ i₀)))
+
+abbrev μ-loop2 : tie.MeasureT-loop2
+μ-loop2 count p is-inside₀ vertices last from₀ i₀ v normals is-inside from i = count - i
+
+returns : tie.Need-returns Inv-loop μ-loop Inv-loop2 μ-loop2
 unfolding containsOf
 returns c = sym (count-none _ _ (c .if1 .taken))
 
-returns-2 : tie.Need-returns-2 Inv-loop μ-loop
+returns-2 : tie.Need-returns-2 Inv-loop μ-loop Inv-loop2 μ-loop2
 unfolding containsOf
 returns-2 c = sym (count-many _ _ (c .before .if1 .left) (c .if2 .taken))
 
-check-point-requires : tie.Need-check-point-requires Inv-loop μ-loop
+check-point-requires : tie.Need-check-point-requires Inv-loop μ-loop Inv-loop2 μ-loop2
 check-point-requires c κs = search needs
 
-enum-known-p : tie.Need-enum-known-p Inv-loop μ-loop
+enum-known-p : tie.Need-enum-known-p Inv-loop μ-loop Inv-loop2 μ-loop2
 enum-known-p c = search needs
 
-enum-told : tie.Need-enum-told Inv-loop μ-loop
+enum-told : tie.Need-enum-told Inv-loop μ-loop Inv-loop2 μ-loop2
 enum-told c = search needs
 
-returns-3 : tie.Need-returns-3 Inv-loop μ-loop
+returns-3 : tie.Need-returns-3 Inv-loop μ-loop Inv-loop2 μ-loop2
 returns-3 c = outside _ _ (c .before .before .before .before .if1 .left) (c .before .before .before .if2 .left) _ _ (ap pointAnswer (sym (c .enum-told .given .1)) ∙ c .before .before .check-point .ensures)
 
-sub-last : tie.Need-sub-last Inv-loop μ-loop
+sub-last : tie.Need-sub-last Inv-loop μ-loop Inv-loop2 μ-loop2
 sub-last c = search needs
 
-mul-from : tie.Need-mul-from Inv-loop μ-loop
+mul-from : tie.Need-mul-from Inv-loop μ-loop Inv-loop2 μ-loop2
 mul-from c = search needs
 
-element-copy-out-from : tie.Need-element-copy-out-from Inv-loop μ-loop
-element-copy-out-from c = search needs
+array-copy-out-from : tie.Need-array-copy-out-from Inv-loop μ-loop Inv-loop2 μ-loop2
+array-copy-out-from c = search needs
 
-loop-holds : tie.Need-loop-holds Inv-loop μ-loop
+loop-holds : tie.Need-loop-holds Inv-loop μ-loop Inv-loop2 μ-loop2
 loop-holds c =
-    let r = c .before .before .before .before .before .before .before .args .t1 in
+    let r = c .before .before .before .before .before .before .before .before .args .r in
     let e : length (r .vertices) ≡ 64 = search unmap in
-    (search needs, sym (started _ r _ (start r (search needs) (long _ _ e (c .before .before .before .before .before .if2 .left)))))
+    (search needs, sym (started _ r _ (start r (search needs) (long _ _ e (c .before .before .before .before .before .before .if2 .left)))))
 
-mul-to : tie.Need-mul-to Inv-loop μ-loop
+mul-to : tie.Need-mul-to Inv-loop μ-loop Inv-loop2 μ-loop2
 mul-to c = search needs
 
-element-copy-out-to : tie.Need-element-copy-out-to Inv-loop μ-loop
-element-copy-out-to c = search needs
+array-copy-out-to : tie.Need-array-copy-out-to Inv-loop μ-loop Inv-loop2 μ-loop2
+array-copy-out-to c = search needs
 
-mul-n : tie.Need-mul-n Inv-loop μ-loop
-mul-n c = search needs
+is-in-lon-range-requires : tie.Need-is-in-lon-range-requires Inv-loop μ-loop Inv-loop2 μ-loop2
+is-in-lon-range-requires c κs = search needs
 
-element-copy-out-n : tie.Need-element-copy-out-n Inv-loop μ-loop
-element-copy-out-n c = search needs
-
-is-counted-requires : tie.Need-is-counted-requires Inv-loop μ-loop
-is-counted-requires c κs = search needs
-
-add-i : tie.Need-add-i Inv-loop μ-loop
+add-i : tie.Need-add-i Inv-loop μ-loop Inv-loop2 μ-loop2
 add-i c = search needs
 
-loop-less : tie.Need-loop-less Inv-loop μ-loop
+loop-less : tie.Need-loop-less Inv-loop μ-loop Inv-loop2 μ-loop2
 loop-less c = search needs
 
-loop-again : tie.Need-loop-again Inv-loop μ-loop
+loop-again : tie.Need-loop-again Inv-loop μ-loop Inv-loop2 μ-loop2
 loop-again c =
-    let r = c .before .before .before .before .before .before .before .before .before .before .before .before .args .t1 in
+    let r = c .before .before .before .before .before .before .before .before .before .before .before .before .before .args .r in
     let e : length (r .vertices) ≡ 64 = search unmap in
     let d : length (r .«cross_products») ≡ 64 = search unmap in
-    let p = c .before .before .before .before .before .before .before .p .given .0 .0 in
+    let p = c .before .before .before .before .before .before .before .before .p .given .0 .0 in
     let l = c .before .before .before .before .loop in
-    let few = c .before .before .before .before .before .before .before .before .before .before .if2 .left in
-    let t = turn r (l .from) (l .i) (long _ _ e few) (long _ _ d few) (search needs) in
-    (search needs, rw (c .is-counted .ensures) (sym (odd-turn (isCounted p) (l .is-inside) _ _) ∙ ap (λ (es : List Edge). exactlyOne (l .is-inside) (oddMany (isCounted p) es)) (sym t) ∙ l .inv .1))
+    let few = c .before .before .before .before .before .before .before .before .before .before .before .if2 .left in
+    (search needs, passed p r (r .«contains_south_pole») _ (l .from) (l .i) (long _ _ e few) (long _ _ d few) (search needs) (out-of-range p (edgeAt r (l .from) (l .i)) (r .«contains_south_pole») (sym (c .before .is-in-lon-range .ensures) ∙ c .if3 .left)) ∙ l .inv .1)
 
-decide-requires : tie.Need-decide-requires Inv-loop μ-loop
+decide-requires : tie.Need-decide-requires Inv-loop μ-loop Inv-loop2 μ-loop2
 decide-requires c κs = search needs
 
-returns-4 : tie.Need-returns-4 Inv-loop μ-loop
+returns-4 : tie.Need-returns-4 Inv-loop μ-loop Inv-loop2 μ-loop2
 returns-4 c =
-    let r = c .before .before .before .before .before .before .before .before .before .before .args .t1 in
+    let r = c .before .before .before .before .before .before .before .before .before .before .before .before .args .r in
     let e : length (r .vertices) ≡ 64 = search unmap in
-    let p = c .before .before .before .before .before .p .given .0 .0 in
-    let l = c .before .before .loop in
-    let few = c .before .before .before .before .before .before .before .before .if2 .left in
+    let p = c .before .before .before .before .before .before .before .p .given .0 .0 in
+    let l = c .before .before .before .loop in
+    let few = c .before .before .before .before .before .before .before .before .before .before .if2 .left in
     c .decide .ensures
-    ∙ inside _ _ (c .before .before .before .before .before .before .before .before .before .if1 .left) few _ _ (ap pointAnswer (sym (c .before .before .before .before .before .p .given .1)) ∙ c .before .before .before .before .before .before .before .check-point .ensures)
-    (sym (odd-done (isCounted p) (l .is-inside)) ∙ ap (λ (es : List Edge). exactlyOne (l .is-inside) (oddMany (isCounted p) es)) (sym (done r (l .from) (l .i) (long _ _ e few) (search needs))) ∙ l .inv .1)
+    ∙ inside _ _ (c .before .before .before .before .before .before .before .before .before .before .before .if1 .left) few _ _ (ap pointAnswer (sym (c .before .before .before .before .before .before .before .p .given .1)) ∙ c .before .before .before .before .before .before .before .before .before .check-point .ensures)
+    (all-passed p r _ (l .from) (l .i) (long _ _ e few) (search needs) ∙ l .inv .1)
+
+to-vect3-requires : tie.Need-to-vect3-requires Inv-loop μ-loop Inv-loop2 μ-loop2
+to-vect3-requires c κs = search needs
+
+loop2-holds : tie.Need-loop2-holds Inv-loop μ-loop Inv-loop2 μ-loop2
+loop2-holds c = (search needs, refl)
+
+mul-to-2 : tie.Need-mul-to-2 Inv-loop μ-loop Inv-loop2 μ-loop2
+mul-to-2 c = search needs
+
+array-copy-out-to-2 : tie.Need-array-copy-out-to-2 Inv-loop μ-loop Inv-loop2 μ-loop2
+array-copy-out-to-2 c = search needs
+
+is-in-lon-range-requires-2 : tie.Need-is-in-lon-range-requires-2 Inv-loop μ-loop Inv-loop2 μ-loop2
+is-in-lon-range-requires-2 c κs = search needs
+
+mul-n : tie.Need-mul-n Inv-loop μ-loop Inv-loop2 μ-loop2
+mul-n c = search needs
+
+array-copy-out-n : tie.Need-array-copy-out-n Inv-loop μ-loop Inv-loop2 μ-loop2
+array-copy-out-n c = search needs
+
+dot-product-requires : tie.Need-dot-product-requires Inv-loop μ-loop Inv-loop2 μ-loop2
+dot-product-requires c κs = search needs
+
+add-i-2 : tie.Need-add-i-2 Inv-loop μ-loop Inv-loop2 μ-loop2
+add-i-2 c = search needs
+
+loop2-less : tie.Need-loop2-less Inv-loop μ-loop Inv-loop2 μ-loop2
+loop2-less c = search needs
+
+loop2-again : tie.Need-loop2-again Inv-loop μ-loop Inv-loop2 μ-loop2
+loop2-again c =
+    let r = c .before .before .before .before .before .before .before .before .before .before .before .before .before .before .before .before .before .before .args .r in
+    let e : length (r .vertices) ≡ 64 = search unmap in
+    let d : length (r .«cross_products») ≡ 64 = search unmap in
+    let p = c .before .before .before .before .before .before .before .before .before .before .before .before .before .p .given .0 .0 in
+    let m = c .before .before .before .before .loop2 in
+    let few = c .before .before .before .before .before .before .before .before .before .before .before .before .before .before .before .before .if2 .left in
+    let w = whole (r .count) (r .vertices) (r .«cross_products») in
+    let in-range = c .before .is-in-lon-range2 .ensures in
+    let goes-on : c .if5 .is-inside ≡ exactlyOne (m .is-inside) (isCounted p (edgeAt w (m .from) (m .i))) =
+    elim (c .if5 .came) [
+      | inl t ↦ t .3 ∙ in-range-there p (edgeAt w (m .from) (m .i)) (m .is-inside) _ _ (sym in-range ∙ t .0 .taken) (c .before .before .before .before .before .before .to-vect3 .ensures) (t .2 .ensures)
+      | inr t ↦ t .1 ∙ out-of-range p (edgeAt w (m .from) (m .i)) (m .is-inside) (sym in-range ∙ t .0 .left)
+    ]
+    in
+    (search needs, passed p w (m .is-inside) _ (m .from) (m .i) (long _ _ e few) (long _ _ d few) (search needs) goes-on ∙ m .inv .1)
+
+decide-requires-2 : tie.Need-decide-requires-2 Inv-loop μ-loop Inv-loop2 μ-loop2
+decide-requires-2 c κs = search needs
+
+returns-5 : tie.Need-returns-5 Inv-loop μ-loop Inv-loop2 μ-loop2
+unfolding edgesLeft
+returns-5 c =
+    let r = c .before .before .before .before .before .before .before .before .before .before .before .before .before .before .before .before .args .r in
+    let e : length (r .vertices) ≡ 64 = search unmap in
+    let p = c .before .before .before .before .before .before .before .before .before .before .before .p .given .0 .0 in
+    let l = c .before .before .before .before .before .before .before .loop in
+    let m = c .before .before .loop2 in
+    let few = c .before .before .before .before .before .before .before .before .before .before .before .before .before .before .if2 .left in
+    c .decide2 .ensures
+    ∙ inside _ _ (c .before .before .before .before .before .before .before .before .before .before .before .before .before .before .before .if1 .left) few _ _ (ap pointAnswer (sym (c .before .before .before .before .before .before .before .before .before .before .before .p .given .1)) ∙ c .before .before .before .before .before .before .before .before .before .before .before .before .before .check-point .ensures)
+    (all-passed p r _ (m .from) (m .i) (long _ _ e few) (search needs) ∙ m .inv .1 ∙ l .inv .1)
 
 pub contains-spec : {M : Type 1} → statement M
 contains-spec =
@@ -130,6 +217,8 @@ contains-spec =
     (tie.spec
     Inv-loop
     μ-loop
+    Inv-loop2
+    μ-loop2
     returns
     returns-2
     check-point-requires
@@ -138,15 +227,26 @@ contains-spec =
     returns-3
     sub-last
     mul-from
-    element-copy-out-from
+    array-copy-out-from
     loop-holds
     mul-to
-    element-copy-out-to
-    mul-n
-    element-copy-out-n
-    is-counted-requires
+    array-copy-out-to
+    is-in-lon-range-requires
     add-i
     loop-less
     loop-again
     decide-requires
-    returns-4)
+    returns-4
+    to-vect3-requires
+    loop2-holds
+    mul-to-2
+    array-copy-out-to-2
+    is-in-lon-range-requires-2
+    mul-n
+    array-copy-out-n
+    dot-product-requires
+    add-i-2
+    loop2-less
+    loop2-again
+    decide-requires-2
+    returns-5)
