@@ -3,6 +3,7 @@ pub mod Quotient
 pub mod Test
 pub mod Line
 pub mod Laws
+pub mod Remainder
 pub mod Units
 pub mod Bits
 pub mod Rounded

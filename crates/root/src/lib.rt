@@ -4,6 +4,188 @@ ghost use Prim.Native.Nat.{_+_, _*_, _/_, _%_, _^_, _≤_, _<_};
 ghost use Rattle.root.specs.Root.{sqrtOf};
 ghost use Rattle.root.specs.Whole.{IsRoot, Extends, nearRoot};
 
+// Near 2 ^ 31 times the inverse of a root, a straight line for each 64th of an octave: its start in five hexadecimal digits, and in the last
+// three its fall in 8192 steps. Nothing is proved of the lines: `checked` tests what they lead to. The compiler makes a table of the arms,
+// where it would copy an array at each call.
+fn tangent(k: u64) -> u32 {
+    match k {
+        0 => 0xb503d_b2f,
+        1 => 0xb39df_aed,
+        2 => 0xb2406_aaf,
+        3 => 0xb0ea9_a72,
+        4 => 0xaf9c5_a38,
+        5 => 0xae556_9ff,
+        6 => 0xad158_9c9,
+        7 => 0xabdc6_995,
+        8 => 0xaaa9c_962,
+        9 => 0xa97d8_931,
+        10 => 0xa8576_902,
+        11 => 0xa7372_8d4,
+        12 => 0xa61c9_8a8,
+        13 => 0xa507a_87e,
+        14 => 0xa3f7e_854,
+        15 => 0xa2ed6_82c,
+        16 => 0xa1e7e_805,
+        17 => 0xa0e74_7df,
+        18 => 0x9feb6_7bb,
+        19 => 0x9ef41_798,
+        20 => 0x9e011_775,
+        21 => 0x9d127_754,
+        22 => 0x9c280_733,
+        23 => 0x9b41a_714,
+        24 => 0x9a5f2_6f5,
+        25 => 0x99808_6d7,
+        26 => 0x98a59_6ba,
+        27 => 0x97ce4_69e,
+        28 => 0x96fa8_683,
+        29 => 0x962a2_668,
+        30 => 0x955d2_64e,
+        31 => 0x94936_635,
+        32 => 0x93ccc_61c,
+        33 => 0x93093_604,
+        34 => 0x9248b_5ed,
+        35 => 0x918b1_5d6,
+        36 => 0x90d06_5c0,
+        37 => 0x90186_5aa,
+        38 => 0x8f632_595,
+        39 => 0x8eb07_580,
+        40 => 0x8e007_56c,
+        41 => 0x8d52e_558,
+        42 => 0x8ca7e_545,
+        43 => 0x8bff3_532,
+        44 => 0x8b58f_520,
+        45 => 0x8ab4e_50e,
+        46 => 0x8a133_4fd,
+        47 => 0x8973a_4ec,
+        48 => 0x88d62_4db,
+        49 => 0x883ac_4ca,
+        50 => 0x87a18_4ba,
+        51 => 0x870a4_4ab,
+        52 => 0x8674e_49b,
+        53 => 0x85e17_48c,
+        54 => 0x85500_47e,
+        55 => 0x84c04_46f,
+        56 => 0x84326_461,
+        57 => 0x83a63_453,
+        58 => 0x831bd_446,
+        59 => 0x82931_438,
+        60 => 0x820c0_42b,
+        61 => 0x8186a_41f,
+        62 => 0x8102c_412,
+        63 => 0x80808_406,
+        64 => 0xfffe6_fd1,
+        65 => 0xfe045_f74,
+        66 => 0xfc15e_f1b,
+        67 => 0xfa329_ec6,
+        68 => 0xf859d_e73,
+        69 => 0xf68b8_e24,
+        70 => 0xf4c71_dd7,
+        71 => 0xf30c4_d8d,
+        72 => 0xf15ab_d45,
+        73 => 0xefb21_d00,
+        74 => 0xee121_cbd,
+        75 => 0xec7a7_c7d,
+        76 => 0xeaeae_c3e,
+        77 => 0xe9632_c02,
+        78 => 0xe7e2e_bc7,
+        79 => 0xe66a1_b8f,
+        80 => 0xe4f84_b58,
+        81 => 0xe38d4_b22,
+        82 => 0xe2290_aef,
+        83 => 0xe0cb4_abd,
+        84 => 0xdf73a_a8c,
+        85 => 0xde223_a5d,
+        86 => 0xdcd6a_a2f,
+        87 => 0xdb90c_a02,
+        88 => 0xda508_9d7,
+        89 => 0xd915b_9ad,
+        90 => 0xd7e01_984,
+        91 => 0xd6af9_95c,
+        92 => 0xd5841_935,
+        93 => 0xd45d8_910,
+        94 => 0xd33b8_8eb,
+        95 => 0xd21e2_8c7,
+        96 => 0xd1054_8a4,
+        97 => 0xcff0c_882,
+        98 => 0xcee07_861,
+        99 => 0xcdd45_841,
+        100 => 0xcccc4_822,
+        101 => 0xcbc81_803,
+        102 => 0xcac7b_7e5,
+        103 => 0xc9cb2_7c8,
+        104 => 0xc8d22_7ab,
+        105 => 0xc7dcc_78f,
+        106 => 0xc6ead_774,
+        107 => 0xc5fc6_75a,
+        108 => 0xc5113_740,
+        109 => 0xc4293_726,
+        110 => 0xc3446_70d,
+        111 => 0xc262c_6f5,
+        112 => 0xc1842_6de,
+        113 => 0xc0a86_6c6,
+        114 => 0xbfcfa_6b0,
+        115 => 0xbef9b_69a,
+        116 => 0xbe268_684,
+        117 => 0xbd561_66f,
+        118 => 0xbc884_65a,
+        119 => 0xbbbd0_645,
+        120 => 0xbaf45_631,
+        121 => 0xba2e3_61e,
+        122 => 0xb96a7_60b,
+        123 => 0xb8a91_5f8,
+        124 => 0xb7ea2_5e6,
+        125 => 0xb72d7_5d4,
+        126 => 0xb672f_5c2,
+        _ => 0xb5bab_5b1,
+    }
+}
+
+// 2 ^ 31 times the inverse of a root, to 15 bits and not above, from the bit pattern of an operand or of one four times as large.
+fn inverse(b: u64) -> u32 {
+    let e = tangent((b >> 46) % 128);
+    std::num::wrapping_sub_u32(e, e % 4096 * (((b >> 33) % 8192) as u32))
+}
+
+fn product(a: u32, b: u32) -> u64
+    ensures { λ r. ⌜ r ≡ a * b ⌝ }
+{
+    a as u64 * b as u64
+}
+
+// The whole number nearest to the root of n * 2 ^ 52, from y near the root's inverse, or 0 where it is not near enough. Newton's step takes
+// the root and its inverse to 31 bits, the root not above. Twice the nearest number, less 1, is then a * 2 ^ 23 + d, and its square leaves r
+// of n * 2 ^ 54.
+fn checked(n: u64, y: u32) -> u64
+    requires { ⌜ (2 ^ 52 ≤ n) × (n < 2 ^ 54) ⌝ }
+    ensures { λ r. ⌜ (0 < r → r ≡ nearRoot (n * 2 ^ 52)) ⌝ }
+{
+    let p = product((n >> 22) as u32, y);
+    let g = (p >> 32) as u32;
+    let e = std::num::wrapping_sub_u64(0x3fff_ffff_0000_0000, product(g, y));
+    let h = ((e >> 16) % 0x1_0000_0000) as u32;
+    let a = (std::num::wrapping_add_u64(p, product(g, h) >> 15) >> 32) as u32;
+    let i = std::num::wrapping_add_u32(y, (product(y, h) >> 47) as u32);
+    let t = std::num::wrapping_sub_u64(n * 256, product(a, a));
+    if t >= 0x4_0000_0000 {
+        return 0;
+    }
+    let c = std::num::wrapping_sub_u64(product((t / 4) as u32, i), 0x40_2000_0000) >> 39;
+    let d = (c * 2 + 1) as u32;
+    let v = std::num::wrapping_sub_u64(t * 0x40_0000, product(a, d));
+    if v >= 0x4_0000_0000 {
+        return 0;
+    }
+    let r = std::num::wrapping_sub_u64(v * 0x100_0000, product(d, d));
+    let s = (a as u64) * 0x40_0000 + c + 1;
+    if r < s * 8 {
+        return s;
+    }
+    if r < s * 16 + 8 {
+        return s + 1;
+    }
+    0
+}
+
 // A whole root, and what its square leaves.
 struct WholeRoot {
     root: u64,
@@ -163,7 +345,7 @@ fn extend(w: WholeRoot, b: u64, m: u64, c: u64) -> WholeRoot
 }
 
 // The whole number nearest to the root of n * 2 ^ 52: 54 digits of the root of 4 times that, and the last of them rounds.
-fn nearest(n: u64) -> u64
+fn by_digits(n: u64) -> u64
     requires { ⌜ (2 ^ 52 ≤ n) × (n < 2 ^ 54) ⌝ }
     ensures { λ r. ⌜ r ≡ nearRoot (n * 2 ^ 52) ⌝ }
 {
@@ -174,12 +356,20 @@ fn nearest(n: u64) -> u64
     (h.root + 1) / 2
 }
 
-// The bit pattern of the root of m * 2 ^ (f - 1126).
-fn finite(m: u64, f: u64) -> u64
+fn nearest(n: u64, y: u32) -> u64
+    requires { ⌜ (2 ^ 52 ≤ n) × (n < 2 ^ 54) ⌝ }
+    ensures { λ r. ⌜ r ≡ nearRoot (n * 2 ^ 52) ⌝ }
+{
+    let r = checked(n, y);
+    if r == 0 { by_digits(n) } else { r }
+}
+
+// The bit pattern of the root of m * 2 ^ (f - 1126), which is the faster the nearer y is to the root's inverse.
+fn finite(m: u64, f: u64, y: u32) -> u64
     requires { ⌜ (2 ^ 52 ≤ m) × (m < 2 ^ 53) × (f ≤ 2097) ⌝ }
     ensures { λ r. ⌜ r ≡ (f / 2 + 485) * 2 ^ 52 + nearRoot (m * 2 ^ (f % 2) * 2 ^ 52) ⌝ }
 {
-    (f / 2 + 485) * 0x10_0000_0000_0000 + nearest(m << (f % 2))
+    (f / 2 + 485) * 0x10_0000_0000_0000 + nearest(m << (f % 2), y)
 }
 
 pub fn sqrt(a: f64) -> f64
@@ -189,6 +379,14 @@ pub fn sqrt(a: f64) -> f64
         return a;
     }
     let b = f64::to_bits(a);
+    // nearly always a positive number that is not subnormal
+    if std::num::wrapping_sub_u64(b, 0x10_0000_0000_0000) < 0x7fe0_0000_0000_0000 {
+        return f64::from_bits(finite(
+            0x10_0000_0000_0000 + b % 0x10_0000_0000_0000,
+            b / 0x10_0000_0000_0000 + 51,
+            inverse(b),
+        ));
+    }
     if b == 0 {
         return a;
     }
@@ -201,13 +399,7 @@ pub fn sqrt(a: f64) -> f64
     if b >= 0x7ff0_0000_0000_0000 {
         return a;
     }
-    if b < 0x10_0000_0000_0000 {
-        let z = u64::leading_zeros(b) as u64;
-        f64::from_bits(finite(b << (z - 11), 63 - z))
-    } else {
-        f64::from_bits(finite(
-            0x10_0000_0000_0000 + b % 0x10_0000_0000_0000,
-            b / 0x10_0000_0000_0000 + 51,
-        ))
-    }
+    let z = u64::leading_zeros(b) as u64;
+    let m = b << (z - 11);
+    f64::from_bits(finite(m, 63 - z, inverse(m + (63 - z) * 0x10_0000_0000_0000)))
 }
