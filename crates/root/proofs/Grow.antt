@@ -1,13 +1,16 @@
 -- A whole root grows by a binary digit as its number grows by a digit in base four. Over numbers of any size. Assumes nothing.
 use mathlib.Core.Path.{_≡_, refl, sym, ap, _∙_, subst}
 use Prim.Native.Nat.{ℕ, zero, suc, _+_, _-_, _*_, _/_, _%_, _^_, _≤_, _<_}
-use native.Mathlib.Nat.{mul-add, add-mul, mul-one, one-mul, mul-mul-mul-comm, mul-le-mul, pow-succ', le-antisymm, lt-of-not-le, le-of-suc-le-suc}
+use native.Mathlib.Nat.{mul-add, add-mul, mul-one, one-mul, mul-comm, mul-mul-mul-comm, mul-le-mul, pow-succ', le-antisymm, lt-of-not-le, le-of-suc-le-suc}
 use native.Mathlib.Numerals.{add-one}
 use native.Mathlib.Omega.{arith}
 use Rattle.root.specs.Whole.{IsRoot}
 
 pub next-square : (x : ℕ) → (x + 1) * (x + 1) ≡ x * x + 2 * x + 1
 next-square x = simp (mul-add, add-mul, mul-one, one-mul) (omega arith)
+
+pub sum-square : (x q : ℕ) → (x + q) * (x + q) ≡ x * x + 2 * (x * q) + q * q
+sum-square x q = add-mul x q (x + q) ∙ omega (arith, mul-add x x q, mul-add q x q, mul-comm q x)
 
 pub double-square : (s : ℕ) → (2 * s) * (2 * s) ≡ 4 * (s * s)
 double-square s = mul-mul-mul-comm 2 s 2 s

@@ -130,6 +130,3 @@ near-range A g l =
 -- what a whole root of 4 A rounds to
 pub nearest-is : {A q r : ℕ} → A < 2 ^ 106 → IsRoot (4 * A) q r → (q + 1) / 2 ≡ nearRoot A
 nearest-is {A} {q} {r} l h = ap (λ (x : ℕ). (x + 1) / 2) (one-root h (rootIn-is 54 (4 * A) (below-four A l) .1)) ∙ sym (near-is A)
-
-pub root-short : {A q r : ℕ} → A < 2 ^ 106 → IsRoot (4 * A) q r → q < 2 ^ 54
-root-short {A} {q} {r} l h = subst (λ (x : ℕ). x < 2 ^ 54) (sym (one-root h (rootIn-is 54 (4 * A) (below-four A l) .1))) (rootIn-lt 54 (4 * A))

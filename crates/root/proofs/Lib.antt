@@ -1,7 +1,5 @@
 pub mod Grow
-pub mod Quotient
 pub mod Test
-pub mod Line
 pub mod Laws
 pub mod Remainder
 pub mod Units

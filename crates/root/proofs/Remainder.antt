@@ -6,8 +6,7 @@ use native.Mathlib.Nat.{le-of-lt, mul-le-mul, mul-mul-mul-comm, mul-right-comm}
 use native.Mathlib.Omega.{arith}
 use lib.Dec.{T, leb, leb→le, nleb→lt}
 use Rattle.root.specs.Whole.{IsRoot, nearRoot}
-use Rattle.root.proofs.Grow.{next-square}
-use Rattle.root.proofs.Quotient.{sum-square}
+use Rattle.root.proofs.Grow.{next-square, sum-square}
 use Rattle.root.proofs.Laws.{nearest-is}
 
 -- the whole root of 4 A is s or s + 1, and either rounds to R

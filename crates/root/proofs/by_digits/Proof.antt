@@ -1,82 +1,171 @@
--- `root::by_digits` meets its contract: the root of the first 32 bits, then of all 64, and of those with 44 zeros after them. Assumes nothing.
-use mathlib.Core.Path.{_≡_, ap, _∙_, subst}
-use Prim.Native.Nat.{ℕ, _+_, _*_, _/_, _%_, _^_, _≤_, _<_}
+-- `root::by_digits` meets its contract. The loop's invariant: the root of the number's first 2 i digits, and the digits that follow them.
+-- The measure is what is left of 54. Assumes nothing.
+use mathlib.Core.Path.{_≡_, refl, sym, ap, _∙_, subst}
+use Prim.Native.Nat.{ℕ, _+_, _-_, _*_, _/_, _%_, _^_, _≤_, _<_}
+use native.Mathlib.Nat.{lt-of-lt-of-le, mul-left-comm}
 use native.Mathlib.Omega.{arith}
+use lib.Dec.{ltb}
+use lib.Pow.{pow-mono}
+use mir.Val.{boolByte}
 use borrow.Author.Needs.{needs}
-use Rattle.root.specs.Whole.{IsRoot, Extends}
-use Rattle.root.proofs.Quotient.{root-ge, root-lt}
-use Rattle.root.proofs.Laws.{nearest-is, root-short}
+use Rattle.root.specs.Whole.{IsRoot, nearRoot}
+use Rattle.root.proofs.Grow.{stays, lifts, same-root, pow-next}
+use Rattle.root.proofs.Test.{either-way}
+use Rattle.root.proofs.Laws.{nearest-is}
 use Rattle.root.proofs.by_digits.Statement.{statement}
 use Rattle.root.proofs.by_digits.Tie as tie
 
--- x is n * 1024
-abbrev Wide : ℕ → Type 0
-Wide n = (2 ^ 52 ≤ n) × (n < 2 ^ 54)
+record State (n s r m i : ℕ) : Type 0 where
+  most : i ≤ 54
+  short : s < 2 ^ i
+  rooted : IsRoot (n * 4 ^ i / 2 ^ 54) s r
+  rest : m ≡ n * 4 ^ i % 2 ^ 54
 
--- a root that was extended, as a root of the longer number
-longer : {y s r s′ r′ : ℕ} (b m c n : ℕ) → IsRoot y s r → y * (b * b) + m * b + c ≡ n → IsRoot ((s * s + r) * (b * b) + m * b + c) s′ r′ → IsRoot n s′ r′
-longer {y} {s} {r} {s′} {r′} b m c n h e g = subst (λ (k : ℕ). IsRoot k s′ r′) (ap (λ (k : ℕ). k * (b * b) + m * b + c) (h .square) ∙ e) g
+module _ (n s r m i : ℕ) (h : State n s r m i) where
+  low : s < 2 ^ 54
+  low = lt-of-lt-of-le (h .short) (pow-mono (h .most))
 
--- a root s of y, with t ≤ s < 2 t, can be extended
-ready : {y s r : ℕ} (t b m c : ℕ) → IsRoot y s r → t * t ≤ y → y < (t * 2) * (t * 2) → b ≤ 2 * t → m < b → c < b → t ≤ 2 ^ 31 → b ≤ 2 ^ 22 → Extends s r b m c
-ready {y} {s} {r} t b m c h l u B M C T S =
-    let low = root-ge t h l in
-    let high = root-lt (t * 2) h u in
-    record { small = h .small; base = omega arith; first = M; second = C; narrow = omega arith; short = S }
+  -- what the next digit is taken of, and the digit
+  abbrev t : ℕ
+  t = r * 4 + m / 2 ^ 52
 
-module _ (n : ℕ) (w : Wide n) where
-  to-64 : (n * 1024 / 2 ^ 32) * 4294967296 + (n * 1024 / 2 ^ 16 % 65536) * 65536 + n * 1024 % 65536 ≡ n * 1024
-  to-64 = omega arith
+  abbrev bit : ℕ
+  bit = boolByte (ltb (s * 4) t)
 
-  to-108 : n * 1024 * 17592186044416 + 0 * 4194304 + 0 ≡ 4 * (n * 2 ^ 52)
-  to-108 = omega arith
+  a1 : r * 4 < 2 ^ 64
+  a1 = omega (arith, low, h .rooted .small)
 
-  top : (2 ^ 30 ≤ n * 1024 / 2 ^ 32) × (n * 1024 / 2 ^ 32 < 2 ^ 32)
-  top = (omega arith, omega arith)
+  a2 : t < 2 ^ 64
+  a2 = omega (arith, low, h .rooted .small, h .rest)
 
-  at-32 : {s r : ℕ} → IsRoot (n * 1024 / 2 ^ 32) s r → Extends s r 65536 (n * 1024 / 2 ^ 16 % 65536) (n * 1024 % 65536)
-  at-32 h = ready 32768 65536 (n * 1024 / 2 ^ 16 % 65536) (n * 1024 % 65536) h (omega arith) (omega arith) (omega arith) (omega arith) (omega arith) (omega arith) (omega arith)
+  a3 : s * 4 + 1 < 2 ^ 64
+  a3 = omega (arith, low)
 
-  at-64 : {s r : ℕ} → IsRoot (n * 1024) s r → Extends s r 4194304 0 0
-  at-64 h = ready (2 ^ 31) 4194304 0 0 h (omega arith) (omega arith) (omega arith) (omega arith) (omega arith) (omega arith) (omega arith)
+  a4 : (s * 4 + 1) * bit ≤ t
+  a4 = either-way (λ (o : ℕ). (s * 4 + 1) * o ≤ t) (s * 4) t (λ (g : s * 4 < t). omega arith) (λ (g : t ≤ s * 4). omega arith)
 
-fits-106 : (n : ℕ) → n < 2 ^ 54 → n * 2 ^ 52 < 2 ^ 106
-fits-106 n h = omega arith
+  a5 : s * 2 + bit < 2 * 2 ^ i
+  a5 = either-way (λ (o : ℕ). s * 2 + o < 2 * 2 ^ i) (s * 4) t (λ (g : s * 4 < t). omega (arith, h .short)) (λ (g : t ≤ s * 4). omega (arith, h .short))
 
-mul-x : tie.Need-mul-x
-mul-x c = search needs
+  a6 : s * 2 + bit < 2 ^ 64
+  a6 = omega (arith, a5, pow-mono (h .most))
 
-of-32-bits-requires : tie.Need-of-32-bits-requires
-of-32-bits-requires c κs = top (c .args .n) (c .pre)
+  grown : n * 4 ^ (i + 1) ≡ 4 * (n * 4 ^ i)
+  grown = ap (λ (q : ℕ). n * q) (pow-next 4 i) ∙ mul-left-comm n 4 (4 ^ i)
 
--- the root after each step
-root-64 : (c : tie.After-extend) → IsRoot (c .before .before .args .n * 1024) (c .extend .result .root) (c .extend .result .remainder)
-root-64 c =
-    let s = c .before .before in
-    let x : ℕ = s .args .n * 1024 in
-    longer 65536 (x / 2 ^ 16 % 65536) (x % 65536) x (c .before .of-32-bits .ensures) (to-64 (s .args .n) (s .pre)) (c .extend .ensures)
+  next : IsRoot (4 * (n * 4 ^ i / 2 ^ 54) + m / 2 ^ 52) (s * 2 + bit) (t - (s * 4 + 1) * bit)
+  next =
+      either-way (λ (o : ℕ). IsRoot (4 * (n * 4 ^ i / 2 ^ 54) + m / 2 ^ 52) (s * 2 + o) (t - (s * 4 + 1) * o)) (s * 4) t
+      (λ (g : s * 4 < t). same-root (omega arith) (omega arith) (lifts (m / 2 ^ 52) (h .rooted) (omega (arith, h .rest)) (omega arith)))
+      (λ (g : t ≤ s * 4). same-root (omega arith) (omega arith) (stays (m / 2 ^ 52) (h .rooted) (omega arith)))
 
-root-108 : (c : tie.After-extend2) → IsRoot (4 * (c .before .before .before .args .n * 2 ^ 52)) (c .extend2 .result .root) (c .extend2 .result .remainder)
-root-108 c =
-    let s = c .before .before .before in
-    longer 4194304 0 0 (4 * (s .args .n * 2 ^ 52)) (root-64 (c .before)) (to-108 (s .args .n) (s .pre)) (c .extend2 .ensures)
+  again : i < 54 → State n (s * 2 + bit) (t - (s * 4 + 1) * bit) (m % 2 ^ 52 * 4) (i + 1)
+  again l = record {
+    most = omega arith;
+    short = subst (λ (q : ℕ). s * 2 + bit < q) (sym (pow-next 2 i)) a5;
+    rooted = subst (λ (q : ℕ). IsRoot q (s * 2 + bit) (t - (s * 4 + 1) * bit)) (digits (n * 4 ^ i) (n * 4 ^ (i + 1)) m grown (h .rest)) next;
+    rest = follow (n * 4 ^ i) (n * 4 ^ (i + 1)) m grown (h .rest);
+  }
+    where
+      digits : (p q m : ℕ) → q ≡ 4 * p → m ≡ p % 2 ^ 54 → 4 * (p / 2 ^ 54) + m / 2 ^ 52 ≡ q / 2 ^ 54
+      digits p q m a b = omega arith
 
-extend-requires : tie.Need-extend-requires
-extend-requires c κs = at-32 (c .before .args .n) (c .before .pre) (c .of-32-bits .ensures)
+      follow : (p q m : ℕ) → q ≡ 4 * p → m ≡ p % 2 ^ 54 → m % 2 ^ 52 * 4 ≡ q % 2 ^ 54
+      follow p q m a b = omega arith
 
-extend-requires-2 : tie.Need-extend-requires-2
-extend-requires-2 c κs = at-64 (c .before .before .args .n) (c .before .before .pre) (root-64 c)
+abbrev Inv-loop : tie.InvT-loop
+Inv-loop n root₀ left₀ rest₀ i₀ root left rest i = State n root left rest i
 
-room : (q : ℕ) → q < 2 ^ 54 → q + 1 < 2 ^ 64
-room q h = omega arith
+abbrev μ-loop : tie.MeasureT-loop
+μ-loop n root₀ left₀ rest₀ i₀ root left rest i = 54 - i
 
-add-result : tie.Need-add-result
-add-result c =
-    let s = c .before .before .before .before in
-    record { fits = room (c .before .extend2 .result .root) (root-short (fits-106 (s .args .n) (s .pre .1)) (root-108 (c .before))) }
+start : (n : ℕ) → n < 2 ^ 54 → State n 0 0 n 0
+start n h = record { most = omega arith; short = omega arith; rooted = record { square = omega arith; small = omega arith }; rest = omega arith }
 
-returns : tie.Need-returns
-returns c = let s = c .before .before .before .before in nearest-is (fits-106 (s .args .n) (s .pre .1)) (root-108 (c .before))
+loop-holds : tie.Need-loop-holds Inv-loop μ-loop
+loop-holds c = start (c .args .n) (c .pre)
+
+mul-t : tie.Need-mul-t Inv-loop μ-loop
+mul-t c = record { fits = a1 _ _ _ _ _ (c .before .loop .inv) }
+
+add-t : tie.Need-add-t Inv-loop μ-loop
+add-t c = record { fits = a2 _ _ _ _ _ (c .before .loop .inv) }
+
+mul-o : tie.Need-mul-o Inv-loop μ-loop
+mul-o c = record { fits = omega (arith, low _ _ _ _ _ (c .before .loop .inv)) }
+
+cast-o : tie.Need-cast-o Inv-loop μ-loop
+cast-o c = search needs
+
+mul-left : tie.Need-mul-left Inv-loop μ-loop
+mul-left c = record { fits = omega (arith, low _ _ _ _ _ (c .before .loop .inv)) }
+
+add-left : tie.Need-add-left Inv-loop μ-loop
+add-left c = record { fits = a3 _ _ _ _ _ (c .before .loop .inv) }
+
+mul-left-2 : tie.Need-mul-left-2 Inv-loop μ-loop
+mul-left-2 c = record { fits = omega (arith, a4 _ _ _ _ _ (c .before .loop .inv), a2 _ _ _ _ _ (c .before .loop .inv)) }
+
+sub-left : tie.Need-sub-left Inv-loop μ-loop
+sub-left c = a4 _ _ _ _ _ (c .before .loop .inv)
+
+mul-root : tie.Need-mul-root Inv-loop μ-loop
+mul-root c = record { fits = omega (arith, low _ _ _ _ _ (c .before .loop .inv)) }
+
+add-root : tie.Need-add-root Inv-loop μ-loop
+add-root c = record { fits = a6 _ _ _ _ _ (c .before .loop .inv) }
+
+mul-rest : tie.Need-mul-rest Inv-loop μ-loop
+mul-rest c = search needs
+
+add-i : tie.Need-add-i Inv-loop μ-loop
+add-i c = search needs
+
+loop-less : tie.Need-loop-less Inv-loop μ-loop
+loop-less c = search needs
+
+loop-again : tie.Need-loop-again Inv-loop μ-loop
+loop-again c = again _ _ _ _ _ (c .before .loop .inv) (omega arith)
+
+add-result : tie.Need-add-result Inv-loop μ-loop
+add-result c = record { fits = omega (arith, low _ _ _ _ _ (c .before .loop .inv)) }
+
+-- at the end all digits are taken
+ended : (n s r m i : ℕ) → n < 2 ^ 54 → 54 ≤ i → State n s r m i → (s + 1) / 2 ≡ nearRoot (n * 2 ^ 52)
+ended n s r m i l g h = nearest-is (omega arith) (subst (λ (q : ℕ). IsRoot q s r) whole (h .rooted))
+  where
+    at-54 : i ≡ 54
+    at-54 = omega (arith, h .most)
+
+    whole : n * 4 ^ i / 2 ^ 54 ≡ 4 * (n * 2 ^ 52)
+    whole = ap (λ (k : ℕ). n * 4 ^ k / 2 ^ 54) at-54 ∙ plain n
+      where
+        plain : (n : ℕ) → n * 4 ^ 54 / 2 ^ 54 ≡ 4 * (n * 2 ^ 52)
+        plain n = omega arith
+
+returns : tie.Need-returns Inv-loop μ-loop
+returns c = ended _ _ _ _ _ (c .before .before .pre) (omega arith) (c .before .loop .inv)
 
 pub by-digits-spec : {M : Type 1} → statement M
-by-digits-spec = tie.close (tie.spec mul-x of-32-bits-requires extend-requires extend-requires-2 add-result returns)
+by-digits-spec =
+    tie.close
+    (tie.spec
+    Inv-loop
+    μ-loop
+    loop-holds
+    mul-t
+    add-t
+    mul-o
+    cast-o
+    mul-left
+    add-left
+    mul-left-2
+    sub-left
+    mul-root
+    add-root
+    mul-rest
+    add-i
+    loop-less
+    loop-again
+    add-result
+    returns)
