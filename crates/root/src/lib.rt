@@ -215,12 +215,12 @@ fn nearest(n: u64, y: u32) -> u64
     if r == 0 { by_digits(n) } else { r }
 }
 
-// The bit pattern of the root of m * 2 ^ (f - 1126), which is the faster the nearer y is to the root's inverse.
-fn finite(m: u64, f: u64, y: u32) -> u64
+// The bit pattern of the root of m * 2 ^ (f - 1126), and the faster where b is that operand's, or a power of four times it.
+fn finite(m: u64, f: u64, b: u64) -> u64
     requires { ⌜ (2 ^ 52 ≤ m) × (m < 2 ^ 53) × (f ≤ 2097) ⌝ }
     ensures { λ r. ⌜ r ≡ (f / 2 + 485) * 2 ^ 52 + nearRoot (m * 2 ^ (f % 2) * 2 ^ 52) ⌝ }
 {
-    (f / 2 + 485) * 0x10_0000_0000_0000 + nearest(m << (f % 2), y)
+    (f / 2 + 485) * 0x10_0000_0000_0000 + nearest(m << (f % 2), inverse(b))
 }
 
 pub fn sqrt(a: f64) -> f64
@@ -235,7 +235,7 @@ pub fn sqrt(a: f64) -> f64
         return f64::from_bits(finite(
             0x10_0000_0000_0000 + b % 0x10_0000_0000_0000,
             b / 0x10_0000_0000_0000 + 51,
-            inverse(b),
+            b,
         ));
     }
     if b == 0 {
@@ -252,5 +252,5 @@ pub fn sqrt(a: f64) -> f64
     }
     let z = u64::leading_zeros(b) as u64;
     let m = b << (z - 11);
-    f64::from_bits(finite(m, 63 - z, inverse(m + (63 - z) * 0x10_0000_0000_0000)))
+    f64::from_bits(finite(m, 63 - z, m + (63 - z) * 0x10_0000_0000_0000))
 }

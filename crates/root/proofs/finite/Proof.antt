@@ -29,20 +29,23 @@ mul-result c = search needs
 shl-nearest : tie.Need-shl-nearest
 shl-nearest c = search needs
 
+inverse-requires : tie.Need-inverse-requires
+inverse-requires c κs = search needs
+
 nearest-requires : tie.Need-nearest-requires
-nearest-requires c κs = (large (c .args .m) (c .args .f) (c .pre .0) (c .pre .1), small (c .args .m) (c .args .f) (c .pre .1))
+nearest-requires c κs = let s = c .before in (large (s .args .m) (s .args .f) (s .pre .0) (s .pre .1), small (s .args .m) (s .args .f) (s .pre .1))
 
 room : (f r A : ℕ) → f ≤ 2097 → r ≡ nearRoot A → (f / 2 + 485) * 2 ^ 52 + r < 2 ^ 64
 room f r A h e = omega (arith, near-le A)
 
 add-result-2 : tie.Need-add-result-2
-add-result-2 c = record { fits = room (c .before .args .f) (c .nearest .result) _ (c .before .pre .2) (c .nearest .ensures) }
+add-result-2 c = let s = c .before .before in record { fits = room (s .args .f) (c .nearest .result) _ (s .pre .2) (c .nearest .ensures) }
 
 returns : tie.Need-returns
 returns c =
-    let m = c .before .args .m in
-    let f = c .before .args .f in
-    ap (λ (r : ℕ). (f / 2 + 485) * 2 ^ 52 + r) (c .nearest .ensures ∙ ap (λ (x : ℕ). nearRoot (x * 2 ^ 52)) (shifted m f (c .before .pre .1)))
+    let s = c .before .before in
+    let f = s .args .f in
+    ap (λ (r : ℕ). (f / 2 + 485) * 2 ^ 52 + r) (c .nearest .ensures ∙ ap (λ (x : ℕ). nearRoot (x * 2 ^ 52)) (shifted (s .args .m) f (s .pre .1)))
 
 pub finite-spec : {M : Type 1} → statement M
-finite-spec = tie.close (tie.spec add-result mul-result shl-nearest nearest-requires add-result-2 returns)
+finite-spec = tie.close (tie.spec add-result mul-result shl-nearest inverse-requires nearest-requires add-result-2 returns)

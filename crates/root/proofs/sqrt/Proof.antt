@@ -48,9 +48,6 @@ add-finite c = search needs
 add-finite-2 : tie.Need-add-finite-2
 add-finite-2 c = search needs
 
-inverse-requires : tie.Need-inverse-requires
-inverse-requires c κs = search needs
-
 finite-requires : tie.Need-finite-requires
 finite-requires c κs = search needs
 
@@ -60,7 +57,7 @@ common c = (omega arith, omega arith)
 
 float-from-bits-result : tie.Need-float-from-bits-result
 float-from-bits-result c =
-    let a = c .before .before in
+    let a = c .before in
     let b = bits (a .before .before .before) in
     no-nan-bits (c .finite .result)
     (subst (λ (x : ℕ). x < 2047 * 2 ^ 52) (sym (c .finite .ensures))
@@ -68,7 +65,7 @@ float-from-bits-result c =
 
 returns-2 : tie.Need-returns-2
 returns-2 c =
-    let a = c .before .before in
+    let a = c .before in
     let s = a .before .before .before in
     let b = bits s in
     ap (λ (x : ℕ). ofBits binary64 x) (c .finite .ensures)
@@ -106,43 +103,40 @@ shl-m c = omega (arith, low c .high)
 sub-finite : tie.Need-sub-finite
 sub-finite c = low c .high
 
-sub-inverse : tie.Need-sub-inverse
-sub-inverse c = low c .high
+sub-finite-2 : tie.Need-sub-finite-2
+sub-finite-2 c = low c .high
 
-mul-inverse : tie.Need-mul-inverse
-mul-inverse c = search needs
+mul-finite : tie.Need-mul-finite
+mul-finite c = search needs
 
-add-inverse : tie.Need-add-inverse
-add-inverse c = record { fits = omega (arith, whole (low c .short), low c .short) }
-
-inverse-requires-2 : tie.Need-inverse-requires-2
-inverse-requires-2 c κs = search needs
+add-finite-3 : tie.Need-add-finite-3
+add-finite-3 c = record { fits = omega (arith, whole (low c .short), low c .short) }
 
 finite-requires-2 : tie.Need-finite-requires-2
-finite-requires-2 c κs = (subst (λ (x : ℕ). 2 ^ 52 ≤ x) (sym (whole (low (c .before) .short))) (low (c .before) .long), subst (λ (x : ℕ). x < 2 ^ 53) (sym (whole (low (c .before) .short))) (low (c .before) .short), omega arith)
+finite-requires-2 c κs = (subst (λ (x : ℕ). 2 ^ 52 ≤ x) (sym (whole (low c .short))) (low c .long), subst (λ (x : ℕ). x < 2 ^ 53) (sym (whole (low c .short))) (low c .short), omega arith)
 
 -- the pattern that `finite` returns, of m that is not cut
 abbrev pattern : ℕ → ℕ → ℕ
 pattern m f = (f / 2 + 485) * 2 ^ 52 + nearRoot (m * 2 ^ (f % 2) * 2 ^ 52)
 
-low-result : (c : tie.After-finite2) → let b = bits (c .before .before .before .before .before .before .before .before .before) in let z = leadingZeros 64 b in c .finite2 .result ≡ pattern (b * 2 ^ (z - 11)) (63 - z)
+low-result : (c : tie.After-finite2) → let b = bits (c .before .before .before .before .before .before .before .before) in let z = leadingZeros 64 b in c .finite2 .result ≡ pattern (b * 2 ^ (z - 11)) (63 - z)
 low-result c =
-    let z = leadingZeros 64 (bits (c .before .before .before .before .before .before .before .before .before)) in
-    c .finite2 .ensures ∙ ap (λ (m : ℕ). pattern m (63 - z)) (whole (low (c .before .before) .short))
+    let z = leadingZeros 64 (bits (c .before .before .before .before .before .before .before .before)) in
+    c .finite2 .ensures ∙ ap (λ (m : ℕ). pattern m (63 - z)) (whole (low (c .before) .short))
 
 float-from-bits-result-2 : tie.Need-float-from-bits-result-2
 float-from-bits-result-2 c =
-    let b = bits (c .before .before .before .before .before .before .before .before .before) in
+    let b = bits (c .before .before .before .before .before .before .before .before) in
     let z = leadingZeros 64 b in
-    let h = low (c .before .before) in
+    let h = low (c .before) in
     no-nan-bits (c .finite2 .result) (subst (λ (x : ℕ). x < 2047 * 2 ^ 52) (sym (low-result c)) (under-infinity b (b * 2 ^ (z - 11)) (63 - z) (h .units) (h .long) (h .short) (omega arith)))
 
 returns-7 : tie.Need-returns-7
 returns-7 c =
-    let s = c .before .before .before .before .before .before .before .before .before in
+    let s = c .before .before .before .before .before .before .before .before in
     let b = bits s in
     let z = leadingZeros 64 b in
-    let h = low (c .before .before) in
+    let h = low (c .before) in
     ap (λ (x : ℕ). ofBits binary64 x) (low-result c)
     ∙ root-is b (b * 2 ^ (z - 11)) (63 - z) (h .units) (h .long) (h .short) (omega arith)
     ∙ sym (ap sqrtOf (sym (back s)) ∙ of-subnormal b (omega arith) (omega (arith, in-range s)))
@@ -156,7 +150,6 @@ sqrt-spec =
     wrapping-sub-u64-requires
     add-finite
     add-finite-2
-    inverse-requires
     finite-requires
     float-from-bits-result
     returns-2
@@ -168,10 +161,9 @@ sqrt-spec =
     sub-m
     shl-m
     sub-finite
-    sub-inverse
-    mul-inverse
-    add-inverse
-    inverse-requires-2
+    sub-finite-2
+    mul-finite
+    add-finite-3
     finite-requires-2
     float-from-bits-result-2
     returns-7)
