@@ -1,5 +1,5 @@
--- What the tests of `checked` say: an odd number's square with what is left of 4 A, and half of the number, rounded up, as the nearest root. Assumes nothing.
-use mathlib.Core.Path.{_≡_, sym, _∙_}
+-- What the tests of `checked` show: where an odd number's square leaves little of 4 A, half of the number, rounded up, is the nearest root. Assumes nothing.
+use mathlib.Core.Path.{_≡_, _∙_}
 use mathlib.Core.Bool.{Bool, true, false, not}
 use Prim.Native.Nat.{ℕ, _+_, _-_, _*_, _/_, _%_, _^_, _≤_, _<_}
 use native.Mathlib.Nat.{le-of-lt, mul-le-mul, mul-mul-mul-comm, mul-right-comm}
@@ -13,19 +13,18 @@ use Rattle.root.proofs.Laws.{nearest-is}
 rounds : {A R : ℕ} (s r : ℕ) → A < 2 ^ 106 → s * s + r ≡ 4 * A → s + 1 ≡ 2 * R → r < 8 * R → R ≡ nearRoot A
 rounds {A} {R} s r l e o h = go (leb r (2 * s)) (leb→le r (2 * s)) (nleb→lt r (2 * s))
   where
-    half : (q : ℕ) → (q + 1) / 2 ≡ nearRoot A → R ≡ (q + 1) / 2 → R ≡ nearRoot A
-    half q a b = b ∙ a
-
     go : (b : Bool) → (T b → r ≤ 2 * s) → (T (not b) → 2 * s < r) → R ≡ nearRoot A
     go true p q =
         let w : IsRoot (4 * A) s r = record { square = e; small = p tt } in
-        half s (nearest-is l w) (omega arith)
+        let u : R ≡ (s + 1) / 2 = omega arith in
+        u ∙ nearest-is l w
     go false p q =
         let k = q tt in
         let w : IsRoot (4 * A) (s + 1) (r - (2 * s + 1)) = record { square = omega (arith, next-square s); small = omega arith } in
-        half (s + 1) (nearest-is l w) (omega arith)
+        let u : R ≡ (s + 1 + 1) / 2 = omega arith in
+        u ∙ nearest-is l w
 
--- a are the root's first 31 bits, c those that follow, and each remainder is one of 64 bits that wrap around
+-- a is the first part of the root, c the second, and each remainder is known but for multiples of 2 ^ 64
 pub record Tested (n a c t v r : ℕ) : Type 0 where
   pub long : 2 ^ 52 ≤ n
   pub short : n < 2 ^ 54
@@ -41,7 +40,10 @@ module _ (n a c t v r : ℕ) (h : Tested n a c t v r) where
   abbrev d : ℕ
   d = c * 2 + 1
 
-  -- nothing wraps around
+  narrow : d ≤ 2 ^ 26
+  narrow = omega (arith, h .second)
+
+  -- the multiple is 0
   one : t + a * a ≡ n * 256
   one = omega (arith, h .squared, h .few, h .long, mul-le-mul top top)
     where
@@ -50,15 +52,9 @@ module _ (n a c t v r : ℕ) (h : Tested n a c t v r) where
 
   two : v + a * d ≡ t * 2 ^ 22
   two = omega (arith, h .mixed, h .fewer, mul-le-mul (le-of-lt (h .first)) narrow)
-    where
-      narrow : d ≤ 2 ^ 26
-      narrow = omega (arith, h .second)
 
   three : r < 2 ^ 60 → r + d * d ≡ v * 2 ^ 24
   three l = omega (arith, h .left, mul-le-mul narrow narrow)
-    where
-      narrow : d ≤ 2 ^ 26
-      narrow = omega (arith, h .second)
 
   whole : r < 2 ^ 60 → (a * 2 ^ 23 + d) * (a * 2 ^ 23 + d) + r ≡ 4 * (n * 2 ^ 52)
   whole l = omega (arith, sum-square (a * 2 ^ 23) d, mul-mul-mul-comm a (2 ^ 23) a (2 ^ 23), mul-right-comm a (2 ^ 23) d, one, two, three l)

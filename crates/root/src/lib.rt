@@ -152,9 +152,9 @@ fn product(a: u32, b: u32) -> u64
     a as u64 * b as u64
 }
 
-// The whole number nearest to the root of n * 2 ^ 52, from y near the root's inverse, or 0 where it is not near enough. Newton's step takes
-// the root and its inverse to 31 bits, the root not above. Twice the nearest number, less 1, is then a * 2 ^ 23 + d, and its square leaves r
-// of n * 2 ^ 54.
+// The whole number nearest to the root of n * 2 ^ 52, from y near the root's inverse, or 0 where y is not near enough. One step of Newton's
+// takes the root and its inverse to 31 bits. The two constants are a little below 1 and above a half, so that neither a nor c is too large:
+// then s or the next number is the nearest. The square of 2 * s - 1, which is a * 2 ^ 23 + d, leaves r of n * 2 ^ 54, and that decides.
 fn checked(n: u64, y: u32) -> u64
     requires { ⌜ (2 ^ 52 ≤ n) × (n < 2 ^ 54) ⌝ }
     ensures { λ r. ⌜ (0 < r → r ≡ nearRoot (n * 2 ^ 52)) ⌝ }

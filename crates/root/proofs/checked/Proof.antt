@@ -11,10 +11,6 @@ use Rattle.root.proofs.checked.Tie as tie
 named : {p k : ℕ} (x y : ℕ) → p ≡ k → (x + p) % 2 ^ 64 ≡ y → (x + k) % 2 ^ 64 ≡ y
 named x y e h = ap (λ (k : ℕ). (x + k) % 2 ^ 64) (sym e) ∙ h
 
--- after the four remainders
-v-at : tie.After-wrapping-sub-u645 → tie.After-wrapping-sub-u644
-v-at c = c .before .before .before
-
 tested : (c : tie.After-wrapping-sub-u645)
     → Tested
     (c .before .before .before .before .before .before .before .before .before .before .before .before .before .before .before .before .before .args .n)
