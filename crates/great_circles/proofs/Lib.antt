@@ -1,2 +1,4 @@
 pub mod Checked
+pub mod Doubles
 pub mod Head
+pub mod Passing

@@ -1,9 +1,11 @@
 // Where a region's edges cross a great circle, or an arc of one. Upstream: `Polygon`'s `intersect_great_circle_` methods in src/sph_geom/mod.rs.
 ghost use mathlib.Core.Path.{_≡_};
+ghost use mathlib.Core.Bool.{cond};
+ghost use lib.Ieee.{lt};
 ghost use Rattle.refusal.specs.Answer.{decisionAnswer};
 ghost use Rattle.region.specs.View.{viewOf};
 ghost use Rattle.crossings.specs.Crossings.{firstAnswer, Lists};
-ghost use Rattle.great_circles.specs.Arcs.{westOf, eastOf, overlapInLon, intersectPoint, inEdge, crossingOf, arcCrossing};
+ghost use Rattle.great_circles.specs.Arcs.{westOf, eastOf, overlapInLon, intersectPoint, inEdge};
 ghost use Rattle.great_circles.specs.Circles.{isBeyond, circleCrossing};
 ghost use Rattle.great_circles.specs.Queries.{arcFirstOf, arcAllOf, isIntersectingArc, circleAllOf};
 use coo3d::Coo3D;
@@ -34,18 +36,25 @@ fn east_of(a: Coo3D, b: Coo3D) -> Coo3D
     if a.lon > b.lon { a } else { b }
 }
 
-// `great_circle_arcs_are_overlapping_in_lon`, of arcs whose first longitude is the lower one.
-fn are_overlapping_in_lon(a: Coo3D, b: Coo3D, pa: Coo3D, pb: Coo3D) -> bool
-    ensures { λ r. ⌜ r ≡ overlapInLon (a .lon) (b .lon) (pa .lon) (pb .lon) ⌝ }
+// Of two longitudes the lower one, which is `west_of`'s; `float::max` has the other.
+fn lower_lon(a: f64, b: f64) -> f64
+    ensures { λ r. ⌜ r ≡ cond (lt b a) b a ⌝ }
 {
-    if b.lon - a.lon < float::PI {
-        if pb.lon - pa.lon <= float::PI {
-            (pb.lon >= a.lon) & (pa.lon <= b.lon)
+    if a > b { b } else { a }
+}
+
+// `great_circle_arcs_are_overlapping_in_lon`, by the longitudes of two arcs, the lower one of each first.
+fn are_overlapping_in_lon(a: f64, b: f64, pa: f64, pb: f64) -> bool
+    ensures { λ r. ⌜ r ≡ overlapInLon a b pa pb ⌝ }
+{
+    if b - a < float::PI {
+        if pb - pa <= float::PI {
+            (pb >= a) & (pa <= b)
         } else {
-            (pb.lon <= b.lon) | (pa.lon >= a.lon)
+            (pb <= b) | (pa >= a)
         }
-    } else if pb.lon - pa.lon <= float::PI {
-        (pb.lon >= b.lon) | (pa.lon <= a.lon)
+    } else if pb - pa <= float::PI {
+        (pb >= b) | (pa <= a)
     } else {
         true
     }
@@ -63,7 +72,8 @@ fn normalized_intersect_point(a: Coo3D, b: Coo3D, ua: f64, ub: f64) -> UnitVect3
     v.normalized()
 }
 
-// The point, where it lies on the edge between pa and pb or opposite to it.
+// The point, where it lies on the edge between pa and pb or opposite to it. The larger of a product and its opposite is the magnitude, up to the
+// sign of a zero, which no comparison sees, and takes no branch.
 fn in_edge(i: UnitVect3, pa: Coo3D, pb: Coo3D) -> Crossing
     ensures { λ r. ⌜ r ≡ inEdge i pa pb ⌝ }
 {
@@ -71,35 +81,20 @@ fn in_edge(i: UnitVect3, pa: Coo3D, pb: Coo3D) -> Crossing
     let vb = pb.to_vect3();
     let v = i.to_vect3();
     let papb = coo3d::dot_product(va, vb);
-    if (float::abs(coo3d::dot_product(va, v)) > papb)
-        & (float::abs(coo3d::dot_product(vb, v)) > papb)
-    {
+    let da = coo3d::dot_product(va, v);
+    let db = coo3d::dot_product(vb, v);
+    if (float::max(da, -da) > papb) & (float::max(db, -db) > papb) {
         Crossing::At(i)
     } else {
         Crossing::None
     }
 }
 
-// The arc from a to b with the edge from pa to pb, each from west to east.
-fn crossing_of(a: Coo3D, b: Coo3D, pa: Coo3D, pb: Coo3D, n: Vect3) -> Crossing
-    ensures { λ r. ⌜ r ≡ crossingOf a b pa pb n ⌝ }
+// `intersect_point_in_polygon_great_circle_arc`, with the edge's ends in either order.
+fn point_in_edge(a: Coo3D, b: Coo3D, from: Coo3D, to: Coo3D, ua: f64, ub: f64) -> Crossing
+    ensures { λ r. ⌜ r ≡ inEdge (intersectPoint a b ua ub) from to ⌝ }
 {
-    if !are_overlapping_in_lon(a, b, pa, pb) {
-        return Crossing::None;
-    }
-    let ua = coo3d::dot_product(a.to_vect3(), n);
-    let ub = coo3d::dot_product(b.to_vect3(), n);
-    if (ua > 0.0) != (ub > 0.0) {
-        in_edge(normalized_intersect_point(a, b, ua, ub), pa, pb)
-    } else {
-        Crossing::None
-    }
-}
-
-fn arc_crossing(a: Coo3D, b: Coo3D, from: Coo3D, to: Coo3D, normal: Vect3) -> Crossing
-    ensures { λ r. ⌜ r ≡ arcCrossing a b (record { from = from; to = to; normal = normal }) ⌝ }
-{
-    crossing_of(a, b, west_of(from, to), east_of(from, to), normal)
+    in_edge(normalized_intersect_point(a, b, ua, ub), from, to)
 }
 
 // Whether both ends of the edge are nearer to the point than to each other.
@@ -129,6 +124,7 @@ fn circle_crossing(n: Vect3, from: Coo3D, to: Coo3D, normal: Vect3) -> Crossing
     }
 }
 
+// The longitudes and the sides of the arc's ends are tested on numbers, in the loop: only an edge that passes hands its points on.
 pub fn intersect_great_circle_arc(r: Region, a: Coo3D, b: Coo3D) -> FirstAnswer
     ensures { λ f. ⌜ firstAnswer f ≡ arcFirstOf (viewOf r) a b ⌝ }
 {
@@ -147,23 +143,48 @@ pub fn intersect_great_circle_arc(r: Region, a: Coo3D, b: Coo3D) -> FirstAnswer
     };
     let west = west_of(p, q);
     let east = east_of(p, q);
-    let last = count - 1;
-    let mut from = r.vertices[last];
+    let a_vect = west.to_vect3();
+    let b_vect = east.to_vect3();
+    let vertices = r.vertices;
+    let normals = r.cross_products;
+    let mut before = count - 1;
+    let last = vertices[before];
+    let mut from_lon = last.lon;
     let mut i: usize = 0;
     while i < count {
-        let to = r.vertices[i];
-        let n = r.cross_products[i];
-        let Tested::Crossing(c) = crossings::test_finite(arc_crossing(west, east, from, to, n))
-        else {
-            return FirstAnswer::Refused(Cause::NotFinite);
-        };
-        match c {
-            Crossing::At(point) => {
-                return FirstAnswer::At(point);
+        let to = vertices[i];
+        let n = normals[i];
+        let to_lon = to.lon;
+        if are_overlapping_in_lon(
+            west.lon,
+            east.lon,
+            lower_lon(from_lon, to_lon),
+            float::max(to_lon, from_lon),
+        ) {
+            let ua = coo3d::dot_product(a_vect, n);
+            let ub = coo3d::dot_product(b_vect, n);
+            if (ua > 0.0) != (ub > 0.0) {
+                let from = vertices[before];
+                let Tested::Crossing(c) = crossings::test_finite(point_in_edge(
+                    west,
+                    east,
+                    from,
+                    to,
+                    ua,
+                    ub,
+                )) else {
+                    return FirstAnswer::Refused(Cause::NotFinite);
+                };
+                match c {
+                    Crossing::At(point) => {
+                        return FirstAnswer::At(point);
+                    }
+                    Crossing::None => {}
+                }
             }
-            Crossing::None => {}
         }
-        from = to;
+        from_lon = to_lon;
+        before = i;
         i += 1;
     }
     FirstAnswer::None
@@ -187,26 +208,51 @@ pub fn intersect_great_circle_arc_all(r: Region, a: Coo3D, b: Coo3D) -> AllAnswe
     };
     let west = west_of(p, q);
     let east = east_of(p, q);
+    let a_vect = west.to_vect3();
+    let b_vect = east.to_vect3();
+    let vertices = r.vertices;
+    let normals = r.cross_products;
     let mut points = crossings::no_points();
     let mut len: usize = 0;
-    let last = count - 1;
-    let mut from = r.vertices[last];
+    let mut before = count - 1;
+    let last = vertices[before];
+    let mut from_lon = last.lon;
     let mut i: usize = 0;
     while i < count {
-        let to = r.vertices[i];
-        let n = r.cross_products[i];
-        let Tested::Crossing(c) = crossings::test_finite(arc_crossing(west, east, from, to, n))
-        else {
-            return crossings::refused(Cause::NotFinite);
-        };
-        match c {
-            Crossing::At(point) => {
-                points[len] = point;
-                len += 1;
+        let to = vertices[i];
+        let n = normals[i];
+        let to_lon = to.lon;
+        if are_overlapping_in_lon(
+            west.lon,
+            east.lon,
+            lower_lon(from_lon, to_lon),
+            float::max(to_lon, from_lon),
+        ) {
+            let ua = coo3d::dot_product(a_vect, n);
+            let ub = coo3d::dot_product(b_vect, n);
+            if (ua > 0.0) != (ub > 0.0) {
+                let from = vertices[before];
+                let Tested::Crossing(c) = crossings::test_finite(point_in_edge(
+                    west,
+                    east,
+                    from,
+                    to,
+                    ua,
+                    ub,
+                )) else {
+                    return crossings::refused(Cause::NotFinite);
+                };
+                match c {
+                    Crossing::At(point) => {
+                        points[len] = point;
+                        len += 1;
+                    }
+                    Crossing::None => {}
+                }
             }
-            Crossing::None => {}
         }
-        from = to;
+        from_lon = to_lon;
+        before = i;
         i += 1;
     }
     AllAnswer {

@@ -1,81 +1,122 @@
 -- `great_circles::intersect_great_circle_arc_all` meets its contract. Assumes nothing.
-use Prim.Native.Nat.{_+_, _-_, _≤_, _<_}
+use Prim.Native.Nat.{ℕ, _+_, _-_, _≤_, _<_}
 use native.Mathlib.Omega.{arith}
-use mathlib.Core.Path.{_≡_, sym, ap, _∙_, subst}
-use borrow.Author.Needs.{needs}
-use lib.ListN.{length, getD}
+use mathlib.Core.Path.{_≡_, refl, sym, ap, _∙_, subst}
+use mathlib.Core.List.{List}
 use mathlib.Core.Logic.{⊎-elim}
+use borrow.Author.Needs.{needs}
+use lib.ListN.{length}
 use Rattle.crossings.specs.declared.Crossing.{Crossing}
+use Rattle.crossings.specs.declared.Crossing.the-variants.{None}
+use Rattle.crossings.specs.declared.Tested.{Tested}
 use Rattle.crossings.specs.declared.Tested.the-variants as tested
+use Rattle.crossings.specs.Crossings.{crossingsOf, testedAnswer, testedOf, allOf, Lists}
 use Rattle.domain.specs.Checks.{pointAnswer}
 use Rattle.domain.proofs.Counts.{count-none, count-many}
-use Rattle.region.specs.Edges.{Edge}
-use Rattle.region.specs.View.{viewOf, nowhere, edgesOf}
-use Rattle.region.proofs.Lengths.{unmap}
-use Rattle.region.proofs.Edges.{edgesLeft, start, turn, done, edges-length}
-use Rattle.crossings.specs.Crossings.{crossingsOf, allOf, Lists}
-use Rattle.crossings.proofs.Gather.{Turn, turned, Gathered, gathered-start, gathered-none, gathered-at, gathered-refused, gathered-done}
 use Rattle.region.specs.declared.Region.{Region}
+use Rattle.region.specs.Edges.{Edge}
+use Rattle.region.specs.View.{viewOf}
+use Rattle.region.proofs.Lengths.{unmap}
+use Rattle.region.proofs.Edges.{edges-length}
+use Rattle.crossings.proofs.Gather.{Turn, turned, Gathered, gathered-start, gathered-none, gathered-at, gathered-refused, gathered-done}
 use Rattle.great_circles.specs.Arcs.{arcCrossing}
 use Rattle.great_circles.specs.Queries.{arcAllOf, arcCrossings}
 use Rattle.great_circles.proofs.Checked.{first-outside, second-outside, both-inside, by-longitude}
+use Rattle.great_circles.proofs.Passing.{ofArrays, edgesBy, leftBy, edgeBy, same-edges, Stands, next-edge, stands-next, none-left, stands-first, all-left, Numbers, apart, one-side, crossed}
 use Rattle.great_circles.proofs.intersect_great_circle_arc_all.Statement.{statement}
 use Rattle.great_circles.proofs.intersect_great_circle_arc_all.Tie as tie
 
 abbrev Inv-loop : tie.InvT-loop
-Inv-loop r count west east points₀ len₀ last from₀ i₀ points len from i =
-    (i ≤ r .count) × Gathered (arcCrossing west east) (edgesOf (viewOf r)) (edgesLeft r from i) points len i
+Inv-loop count west east a-vect b-vect vertices normals points₀ len₀ before₀ from-lon₀ i₀ points len before from-lon i =
+    Stands vertices normals count before from-lon i × Gathered (arcCrossing west east) (edgesBy vertices normals count) (leftBy vertices normals count before i) points len i
 
 abbrev μ-loop : tie.MeasureT-loop
-μ-loop r count west east points₀ len₀ last from₀ i₀ points len from i = r .count - i
+μ-loop count west east a-vect b-vect vertices normals points₀ len₀ before₀ from-lon₀ i₀ points len before from-lon i = count - i
 
-long : (c : tie.Start Inv-loop μ-loop) → c .args .t1 .count ≤ 64 → c .args .t1 .count ≤ length (c .args .t1 .vertices)
-long c h = let e : length (c .args .t1 .vertices) ≡ 64 = search unmap in omega arith
+lengths : (c : tie.Start Inv-loop μ-loop) → (length (c .args .r .vertices) ≡ 64) × (length (c .args .r .«cross_products») ≡ 64)
+lengths c = (search unmap, search unmap)
 
-long' : (c : tie.Start Inv-loop μ-loop) → c .args .t1 .count ≤ 64 → c .args .t1 .count ≤ length (c .args .t1 .«cross_products»)
-long' c h = let e : length (c .args .t1 .«cross_products») ≡ 64 = search unmap in omega arith
-
--- the crossing of an edge, and the answer, once the arguments are checked
-module _ (x : tie.After-from Inv-loop μ-loop) where
+-- the crossing of an edge, and the answer, once the points are checked
+module _ (x : tie.After-last Inv-loop μ-loop) where
   abbrev start-of : tie.Start Inv-loop μ-loop
-  start-of = x .before .before .before .before .before .before .before .before .before .before .before .before .before .before
+  start-of = x .before .before .before .before .before .before .before .before .before .before .before .before .before .before .before .before .before .before
 
   abbrev region : Region
-  region = start-of .args .t1
+  region = start-of .args .r
 
   abbrev hit : Edge → Crossing
-  hit = arcCrossing (x .before .before .before .west-of .result) (x .before .before .east-of .result)
+  hit = arcCrossing (x .before .before .before .before .before .before .before .west-of .result) (x .before .before .before .before .before .before .east-of .result)
+
+  some : region .count ≡ 0 → ⊥
+  some = x .before .before .before .before .before .before .before .before .before .before .before .before .before .before .before .before .before .if1 .left
 
   few : region .count ≤ 64
-  few = x .before .before .before .before .before .before .before .before .before .before .before .before .if2 .left
+  few = x .before .before .before .before .before .before .before .before .before .before .before .before .before .before .before .before .if2 .left
 
-  whole : allOf (crossingsOf hit (edgesOf (viewOf region))) ≡ arcAllOf (viewOf region) (start-of .args .a) (start-of .args .b)
+  whole : allOf (crossingsOf hit (edgesBy (region .vertices) (region .«cross_products») (region .count))) ≡ arcAllOf (viewOf region) (start-of .args .a) (start-of .args .b)
   unfolding arcAllOf
   whole =
-      ap allOf (by-longitude (viewOf region) _ _ _ _ (x .before .before .before .west-of .ensures) (x .before .before .east-of .ensures))
+      ap (λ (es : List Edge). allOf (crossingsOf hit es)) (same-edges region)
+      ∙ ap allOf (by-longitude (viewOf region) _ _ _ _ (x .before .before .before .before .before .before .before .west-of .ensures) (x .before .before .before .before .before .before .east-of .ensures))
       ∙ sym
-      (both-inside (region .count) (start-of .args .a) (start-of .args .b) (λ p q. allOf (arcCrossings (viewOf region) p q)) (x .before .before .before .before .before .before .before .before .before .before .before .before .before .if1 .left) few _
-      (ap pointAnswer (sym (x .before .before .before .before .before .before .before .before .before .p .given .1)) ∙ x .before .before .before .before .before .before .before .before .before .before .before .check-point .ensures)
+      (both-inside (region .count) (start-of .args .a) (start-of .args .b) (λ p q. allOf (arcCrossings (viewOf region) p q)) some few _
+      (ap pointAnswer (sym (x .before .before .before .before .before .before .before .before .before .before .before .before .before .p .given .1)) ∙ x .before .before .before .before .before .before .before .before .before .before .before .before .before .before .before .check-point .ensures)
       _
-      (ap pointAnswer (sym (x .before .before .before .before .before .q .given .1)) ∙ x .before .before .before .before .before .before .before .check-point2 .ensures))
+      (ap pointAnswer (sym (x .before .before .before .before .before .before .before .before .before .q .given .1)) ∙ x .before .before .before .before .before .before .before .before .before .before .before .check-point2 .ensures))
 
--- the turn of the loop
-module _ (y : tie.After-test-finite Inv-loop μ-loop) where
+-- the edge of a turn
+module _ (z : tie.After-are-overlapping-in-lon Inv-loop μ-loop) where
   abbrev now : tie.At-loop Inv-loop μ-loop
-  now = y .before .before .before .before .before
+  now = z .before .before .before .before .before .before
 
-  here : let x = now .before in
-      let l = now .loop in
-      Turn (hit x) (edgesLeft (region x) (l .from) (l .i)) (edgesLeft (region x) (getD (region x .vertices) (l .i) nowhere) (l .i + 1)) (y .test-finite .result)
-  here =
-      let x = now .before in
-      turned (turn (region x) _ _ (long (start-of x) (few x)) (long' (start-of x) (few x)) (y .before .before .before .before .loop-test .taken)) (y .before .arc-crossing .ensures) (y .test-finite .ensures)
+  abbrev before-loop : tie.After-last Inv-loop μ-loop
+  before-loop = now .before
+
+  abbrev edge : Edge
+  edge = edgeBy (region before-loop .vertices) (region before-loop .«cross_products») (now .loop .before) (now .loop .i)
+
+  on : now .loop .i < region before-loop .count
+  on = z .before .before .before .before .before .loop-test .taken
 
   in-count : now .loop .i < 64
-  in-count = omega (arith, y .before .before .before .before .loop-test .taken, few (now .before))
+  in-count = omega (arith, on, few before-loop)
 
   in-array : now .loop .len < 64
   in-array = omega (arith, in-count, now .loop .inv .1 .few)
+
+  abbrev Told : Tested → Type 0
+  Told t =
+      Turn (hit before-loop) (leftBy (region before-loop .vertices) (region before-loop .«cross_products») (region before-loop .count) (now .loop .before) (now .loop .i))
+      (leftBy (region before-loop .vertices) (region before-loop .«cross_products») (region before-loop .count) (now .loop .i) (now .loop .i + 1))
+      t
+
+  here : {t : Tested} {c : Crossing} → c ≡ hit before-loop edge → testedAnswer t ≡ testedOf c → Told t
+  here e t = turned (next-edge (now .loop .inv .0) on) e t
+
+  no-crossing : None ≡ hit before-loop edge → Told (tested.Crossing None)
+  no-crossing e = here e refl
+
+  numbers : Numbers (before-loop .before .before .before .before .before .before .before .west-of .result) (before-loop .before .before .before .before .before .before .east-of .result) edge (z .are-overlapping-in-lon .result) (before-loop .before .before .before .before .before .to-vect3 .result) (before-loop .before .before .before .before .to-vect32 .result)
+  numbers =
+      record {
+        from-lon = _;
+        lower = _;
+        higher = _;
+        from-lon-is = z .before .before .before .before .before .before .loop .inv .0 .lon-is;
+        lower-is = z .before .before .lower-lon .ensures;
+        higher-is = z .before .max .ensures;
+        over-is = z .are-overlapping-in-lon .ensures;
+        va-is = before-loop .before .before .before .before .before .to-vect3 .ensures;
+        vb-is = before-loop .before .before .before .before .to-vect32 .ensures;
+      }
+
+-- what the test of the crossing told
+module _ (y : tie.After-test-finite Inv-loop μ-loop) where
+  abbrev of-edge : tie.After-are-overlapping-in-lon Inv-loop μ-loop
+  of-edge = y .before .before .before .before .before .before .before
+
+  told : Told of-edge (y .test-finite .result)
+  told = here of-edge (crossed (numbers of-edge) (y .before .before .before .before .before .dot-product .ensures) (y .before .before .before .before .dot-product2 .ensures) (y .before .before .before .before .before .before .if3 .taken) (y .before .before .before .if4 .taken) (y .before .point-in-edge .ensures)) (y .test-finite .ensures)
 
 refused-requires : tie.Need-refused-requires Inv-loop μ-loop
 refused-requires c κs = search needs
@@ -129,35 +170,64 @@ west-of-requires c κs = search needs
 east-of-requires : tie.Need-east-of-requires Inv-loop μ-loop
 east-of-requires c κs = search needs
 
+to-vect3-requires : tie.Need-to-vect3-requires Inv-loop μ-loop
+to-vect3-requires c κs = search needs
+
+to-vect3-requires-2 : tie.Need-to-vect3-requires-2 Inv-loop μ-loop
+to-vect3-requires-2 c κs = search needs
+
 no-points-requires : tie.Need-no-points-requires Inv-loop μ-loop
 no-points-requires c κs = search needs
 
-sub-last : tie.Need-sub-last Inv-loop μ-loop
-sub-last c = search needs
+sub-before : tie.Need-sub-before Inv-loop μ-loop
+sub-before c = omega (arith, c .before .before .before .before .before .before .before .before .before .before .before .before .before .before .before .before .if1 .left)
 
-mul-from : tie.Need-mul-from Inv-loop μ-loop
-mul-from c = search needs
+mul-last : tie.Need-mul-last Inv-loop μ-loop
+mul-last c = omega (arith, c .before .before .before .before .before .before .before .before .before .before .before .before .before .before .before .if2 .left)
 
-element-copy-out-from : tie.Need-element-copy-out-from Inv-loop μ-loop
-element-copy-out-from c = search needs
+array-copy-out-last : tie.Need-array-copy-out-last Inv-loop μ-loop
+array-copy-out-last c = omega (arith, c .before .before .before .before .before .before .before .before .before .before .before .before .before .before .before .before .if1 .left, c .before .before .before .before .before .before .before .before .before .before .before .before .before .before .before .if2 .left)
 
 loop-holds : tie.Need-loop-holds Inv-loop μ-loop
-loop-holds c = (omega arith, gathered-start (omega (arith, edges-length (region c), few c)) (c .before .no-points .ensures) (start (region c) (omega (arith, c .before .before .before .before .before .before .before .before .before .before .before .before .before .if1 .left)) (long (start-of c) (few c))))
+loop-holds c =
+    let l = lengths (start-of c) in
+    (stands-first _ _ _ (some c) (few c) (l .0) (l .1), gathered-start (omega (arith, edges-length (ofArrays (region c .vertices) (region c .«cross_products») (region c .count)), few c)) (c .before .no-points .ensures) (all-left _ _ _ (some c) (few c) (l .0) (l .1)))
 
 mul-to : tie.Need-mul-to Inv-loop μ-loop
 mul-to c = search needs
 
-element-copy-out-to : tie.Need-element-copy-out-to Inv-loop μ-loop
-element-copy-out-to c = search needs
+array-copy-out-to : tie.Need-array-copy-out-to Inv-loop μ-loop
+array-copy-out-to c = search needs
 
 mul-n : tie.Need-mul-n Inv-loop μ-loop
 mul-n c = search needs
 
-element-copy-out-n : tie.Need-element-copy-out-n Inv-loop μ-loop
-element-copy-out-n c = search needs
+array-copy-out-n : tie.Need-array-copy-out-n Inv-loop μ-loop
+array-copy-out-n c = search needs
 
-arc-crossing-requires : tie.Need-arc-crossing-requires Inv-loop μ-loop
-arc-crossing-requires c κs = search needs
+lower-lon-requires : tie.Need-lower-lon-requires Inv-loop μ-loop
+lower-lon-requires c κs = search needs
+
+max-requires : tie.Need-max-requires Inv-loop μ-loop
+max-requires c κs = search needs
+
+are-overlapping-in-lon-requires : tie.Need-are-overlapping-in-lon-requires Inv-loop μ-loop
+are-overlapping-in-lon-requires c κs = search needs
+
+dot-product-requires : tie.Need-dot-product-requires Inv-loop μ-loop
+dot-product-requires c κs = search needs
+
+dot-product-requires-2 : tie.Need-dot-product-requires-2 Inv-loop μ-loop
+dot-product-requires-2 c κs = search needs
+
+mul-from : tie.Need-mul-from Inv-loop μ-loop
+mul-from c = search needs
+
+array-copy-out-from : tie.Need-array-copy-out-from Inv-loop μ-loop
+array-copy-out-from c = search needs
+
+point-in-edge-requires : tie.Need-point-in-edge-requires Inv-loop μ-loop
+point-in-edge-requires c κs = search needs
 
 test-finite-requires : tie.Need-test-finite-requires Inv-loop μ-loop
 test-finite-requires c κs = search needs
@@ -174,44 +244,51 @@ refused-requires-5 c κs = search needs
 returns-5 : tie.Need-returns-5 Inv-loop μ-loop
 returns-5 c =
     let y = c .before .before .before in
-    let x = now y .before in
-    gathered-refused (now y .loop .inv .1) _ (whole x) (here y) _ (c .before .enum-told3 .given .1) _ (c .refused5 .ensures)
+    let z = of-edge y in
+    gathered-refused (now z .loop .inv .1) _ (whole (before-loop z)) (told y) _ (c .before .enum-told3 .given .1) _ (c .refused5 .ensures)
 
 enum-known-c-2 : tie.Need-enum-known-c-2 Inv-loop μ-loop
 enum-known-c-2 c = search needs
 
 mul-points : tie.Need-mul-points Inv-loop μ-loop
-mul-points c = omega (arith, in-array (c .before .before .before .before .before .before))
+mul-points c = omega (arith, in-array (c .before .before .before .before .before .before .before .before .before .before .before .before .before))
 
 array-set-from-points : tie.Need-array-set-from-points Inv-loop μ-loop
-array-set-from-points c = omega (arith, in-array (c .before .before .before .before .before .before))
+array-set-from-points c = omega (arith, in-array (c .before .before .before .before .before .before .before .before .before .before .before .before .before))
 
 add-len : tie.Need-add-len Inv-loop μ-loop
-add-len c = omega (arith, in-array (c .before .before .before .before .before .before))
+add-len c = omega (arith, in-array (c .before .before .before .before .before .before .before .before .before .before .before .before .before))
 
 enum-told-4 : tie.Need-enum-told-4 Inv-loop μ-loop
 enum-told-4 c = search needs
 
 add-i : tie.Need-add-i Inv-loop μ-loop
-add-i c = omega (arith, in-count (c .before .before .before .before))
+add-i c = omega (arith, in-count (c .before))
 
 loop-less : tie.Need-loop-less Inv-loop μ-loop
 loop-less c = search needs
 
 loop-again : tie.Need-loop-again Inv-loop μ-loop
 loop-again c =
-    let y = c .before .before .before .before in
-    let t = c .before .before .c .given .1 in
+    let z = c .before in
+    let g = now z .loop .inv .1 in
+    let next = stands-next (now z .loop .inv .0) (on z) in
     ⊎-elim
-    (λ w. (search needs, gathered-at (here y) (now y .loop .inv .1) _ (t ∙ ap tested.Crossing (w .1 .given .1)) (w .3) (w .4)))
-    (λ w. (search needs, gathered-none (here y) (now y .loop .inv .1) (t ∙ ap tested.Crossing (w .1 .given .1)) (w .2) (w .3)))
-    (c .match4 .came)
+    (λ w.
+    (next, gathered-at (here z (crossed (numbers z) (w .1 .ensures) (w .2 .ensures) (w .0 .taken) (w .3 .taken) (w .5 .ensures)) (w .6 .ensures)) g _ (w .8 .given .1 ∙ ap tested.Crossing (w .11 .given .1)) (w .13) (w .14)))
+    (⊎-elim
+    (λ w.
+    (next, gathered-none (here z (crossed (numbers z) (w .1 .ensures) (w .2 .ensures) (w .0 .taken) (w .3 .taken) (w .5 .ensures)) (w .6 .ensures)) g (w .8 .given .1 ∙ ap tested.Crossing (w .11 .given .1)) (w .12) (w .13)))
+    (⊎-elim
+    (λ w. (next, gathered-none (no-crossing z (one-side (numbers z) (w .1 .ensures) (w .2 .ensures) (w .0 .taken) (w .3 .left))) g refl (w .4) (w .5)))
+    (λ w. (next, gathered-none (no-crossing z (apart (numbers z) (w .0 .left))) g refl (w .1) (w .2)))))
+    (c .if3 .came)
 
 returns-6 : tie.Need-returns-6 Inv-loop μ-loop
 returns-6 c =
     let x = c .before .before in
     let l = c .before .loop in
-    gathered-done (l .inv .1) _ (whole x) (done (region x) (l .from) (l .i) (long (start-of x) (few x)) (c .loop-test .left))
+    gathered-done (l .inv .1) _ (whole x) (none-left (l .inv .0) (c .loop-test .left))
 
 pub intersect-great-circle-arc-all-spec : {M : Type 1} → statement M
 intersect-great-circle-arc-all-spec =
@@ -235,16 +312,25 @@ intersect-great-circle-arc-all-spec =
     returns-4
     west-of-requires
     east-of-requires
+    to-vect3-requires
+    to-vect3-requires-2
     no-points-requires
-    sub-last
-    mul-from
-    element-copy-out-from
+    sub-before
+    mul-last
+    array-copy-out-last
     loop-holds
     mul-to
-    element-copy-out-to
+    array-copy-out-to
     mul-n
-    element-copy-out-n
-    arc-crossing-requires
+    array-copy-out-n
+    lower-lon-requires
+    max-requires
+    are-overlapping-in-lon-requires
+    dot-product-requires
+    dot-product-requires-2
+    mul-from
+    array-copy-out-from
+    point-in-edge-requires
     test-finite-requires
     enum-known-c
     enum-told-3
