@@ -173,28 +173,35 @@ pub fn intersect_parallel(r: Region, lat: f64, lat_sin: f64, lat_cos: f64) -> Fi
     if !is_parallel(lat, lat_sin, lat_cos) {
         return FirstAnswer::Refused(Cause::NoSuchParallel);
     }
-    let last = count - 1;
-    let mut from = r.vertices[last];
+    let vertices = r.vertices;
+    let normals = r.cross_products;
+    let mut before = count - 1;
+    let mut from_below = vertices[before].lat <= lat;
     let mut i: usize = 0;
     while i < count {
-        let to = r.vertices[i];
-        if spans_lat(from, to, lat) {
-            let n = r.cross_products[i];
-            let Tested::Crossing(c) = crossings::test_finite(point_of(
-                from,
-                to,
-                n,
-                lat_sin,
-                lat_cos,
-            )) else {
-                return FirstAnswer::Refused(Cause::NotFinite);
-            };
-            let Crossing::At(p) = c else {
-                return FirstAnswer::None;
-            };
-            return FirstAnswer::At(p);
+        let to_below = vertices[i].lat <= lat;
+        if from_below != to_below {
+            let from = vertices[before];
+            let to = vertices[i];
+            if spans_lat(from, to, lat) {
+                let n = normals[i];
+                let Tested::Crossing(c) = crossings::test_finite(point_of(
+                    from,
+                    to,
+                    n,
+                    lat_sin,
+                    lat_cos,
+                )) else {
+                    return FirstAnswer::Refused(Cause::NotFinite);
+                };
+                let Crossing::At(p) = c else {
+                    return FirstAnswer::None;
+                };
+                return FirstAnswer::At(p);
+            }
+            from_below = to_below;
         }
-        from = to;
+        before = i;
         i += 1;
     }
     FirstAnswer::None

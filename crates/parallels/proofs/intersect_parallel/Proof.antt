@@ -1,36 +1,49 @@
 -- `parallels::intersect_parallel` meets its contract. Assumes nothing.
 -- The loop's invariant: the edges that are left decide as all of them do. The measure is how many are left.
-use Prim.Native.Nat.{_-_, _≤_}
+use Prim.Native.Nat.{ℕ, _-_, _≤_, _<_}
 use native.Mathlib.Omega.{arith}
-use mathlib.Core.Path.{_≡_, sym, ap, _∙_}
+use mathlib.Core.Path.{_≡_, refl, sym, ap, _∙_}
+use mathlib.Core.Logic.{⊎-elim}
 use borrow.Author.Needs.{needs}
-use lib.ListN.{length}
+use lib.Ieee.{le}
+use lib.ListN.{length, getD}
 use Rattle.crossings.specs.declared.Crossing.{Crossing}
 use Rattle.crossings.specs.declared.Tested.the-variants as tested
 use Rattle.crossings.specs.Crossings.{testedAnswer, listed, firstOf}
 use Rattle.domain.proofs.Counts.{count-none, count-many}
 use Rattle.refusal.specs.Answer.{answered}
-use Rattle.region.specs.View.{viewOf, edgesOf}
+use Rattle.region.specs.declared.Region.{Region}
+use Rattle.region.specs.View.{viewOf, edgesOf, nowhere}
 use Rattle.region.proofs.Edges.{edgesLeft, start}
 use Rattle.region.proofs.Lengths.{unmap}
 use Rattle.parallels.proofs.Given.{parallel-refused, parallel-passed}
 use Rattle.parallels.proofs.First.{fit-not, fit-here, fit-nowhere, only-passed, only-refused}
+use Rattle.parallels.proofs.Held.{held, held-edges}
+use Rattle.parallels.proofs.Sides.{alike, one-side}
 use Rattle.parallels.specs.Queries.{firstFit, parallelFirstOf}
 use Rattle.parallels.proofs.intersect_parallel.Statement.{statement}
 use Rattle.parallels.proofs.intersect_parallel.Tie as tie
 
 abbrev Inv-loop : tie.InvT-loop
-Inv-loop lat lat-sin lat-cos r count last from₀ i₀ from i =
-    (i ≤ r .count) × (firstFit lat lat-sin lat-cos (edgesLeft r from i) ≡ firstFit lat lat-sin lat-cos (edgesOf (viewOf r)))
+Inv-loop lat lat-sin lat-cos count vertices normals before₀ from-below₀ i₀ before from-below i =
+    (i ≤ count)
+    × (before < count)
+    × (from-below ≡ le (getD vertices before nowhere .lat) lat)
+    × (firstFit lat lat-sin lat-cos (edgesLeft (held vertices normals count) (getD vertices before nowhere) i)
+    ≡ firstFit lat lat-sin lat-cos (edgesOf (viewOf (held vertices normals count))))
 
 abbrev μ-loop : tie.MeasureT-loop
-μ-loop lat lat-sin lat-cos r count last from₀ i₀ from i = r .count - i
+μ-loop lat lat-sin lat-cos count vertices normals before₀ from-below₀ i₀ before from-below i = count - i
 
-long : (c : tie.Start Inv-loop μ-loop) → c .args .t1 .count ≤ 64 → c .args .t1 .count ≤ length (c .args .t1 .vertices)
-long c h = let e : length (c .args .t1 .vertices) ≡ 64 = search unmap in omega arith
+-- the region that the loop has
+abbrev region : tie.Start Inv-loop μ-loop → Region
+region s = held (s .args .r .vertices) (s .args .r .«cross_products») (s .args .r .count)
 
-long' : (c : tie.Start Inv-loop μ-loop) → c .args .t1 .count ≤ 64 → c .args .t1 .count ≤ length (c .args .t1 .«cross_products»)
-long' c h = let e : length (c .args .t1 .«cross_products») ≡ 64 = search unmap in omega arith
+long : (c : tie.Start Inv-loop μ-loop) → c .args .r .count ≤ 64 → c .args .r .count ≤ length (c .args .r .vertices)
+long c h = let e : length (c .args .r .vertices) ≡ 64 = search unmap in omega arith
+
+long' : (c : tie.Start Inv-loop μ-loop) → c .args .r .count ≤ 64 → c .args .r .count ≤ length (c .args .r .«cross_products»)
+long' c h = let e : length (c .args .r .«cross_products») ≡ 64 = search unmap in omega arith
 
 returns : tie.Need-returns Inv-loop μ-loop
 unfolding parallelFirstOf
@@ -47,37 +60,50 @@ returns-3 : tie.Need-returns-3 Inv-loop μ-loop
 unfolding parallelFirstOf
 returns-3 c =
     let s = c .before .before .before .before in
-    sym (parallel-refused (viewOf (s .args .t1)) _ _ _ _ (search needs) (search needs) _ (c .before .is-parallel .ensures) (c .if3 .taken))
+    sym (parallel-refused (viewOf (s .args .r)) _ _ _ _ (search needs) (search needs) _ (c .before .is-parallel .ensures) (c .if3 .taken))
 
-sub-last : tie.Need-sub-last Inv-loop μ-loop
-sub-last c = search needs
+sub-before : tie.Need-sub-before Inv-loop μ-loop
+sub-before c = search needs
+
+mul-from-below : tie.Need-mul-from-below Inv-loop μ-loop
+mul-from-below c = search needs
+
+element-copy-out-from-below : tie.Need-element-copy-out-from-below Inv-loop μ-loop
+element-copy-out-from-below c = search needs
+
+-- the edges that are left decide, once the tests are passed
+answer : (c : tie.At-loop Inv-loop μ-loop)
+    → let s = c .before .before .before .before .before .before .before in
+    firstOf (firstFit (s .args .lat) (s .args .lat-sin) (s .args .lat-cos) (edgesLeft (region s) (getD (s .args .r .vertices) (c .loop .before) nowhere) (c .loop .i)))
+    ≡ parallelFirstOf (viewOf (s .args .r)) (s .args .lat) (s .args .lat-sin) (s .args .lat-cos)
+unfolding parallelFirstOf
+answer c =
+    let s = c .before .before .before .before .before .before .before in
+    ap firstOf (c .loop .inv .3 ∙ ap (firstFit _ _ _) (held-edges (s .args .r)))
+    ∙ sym (parallel-passed (viewOf (s .args .r)) _ _ _ _ (search needs) (search needs) _ (c .before .before .before .before .is-parallel .ensures) (c .before .before .before .if3 .left))
+
+loop-holds : tie.Need-loop-holds Inv-loop μ-loop
+loop-holds c =
+    let s = c .before .before .before .before .before .before in
+    (search needs, search needs, refl, ap (firstFit _ _ _) (sym (start (region s) (search needs) (long s (search needs)))))
+
+mul-to-below : tie.Need-mul-to-below Inv-loop μ-loop
+mul-to-below c = search needs
+
+element-copy-out-to-below : tie.Need-element-copy-out-to-below Inv-loop μ-loop
+element-copy-out-to-below c = search needs
 
 mul-from : tie.Need-mul-from Inv-loop μ-loop
 mul-from c = search needs
 
-element-copy-out-from : tie.Need-element-copy-out-from Inv-loop μ-loop
-element-copy-out-from c = search needs
-
--- the edges that are left decide, once the tests are passed
-answer : (c : tie.At-loop Inv-loop μ-loop)
-    → let a = c .before .before .before .before .before .before .args in
-    firstOf (firstFit (a .lat) (a .lat-sin) (a .lat-cos) (edgesLeft (a .t1) (c .loop .from) (c .loop .i))) ≡ parallelFirstOf (viewOf (a .t1)) (a .lat) (a .lat-sin) (a .lat-cos)
-unfolding parallelFirstOf
-answer c =
-    let s = c .before .before .before .before .before .before in
-    ap firstOf (c .loop .inv .1)
-    ∙ sym (parallel-passed (viewOf (s .args .t1)) _ _ _ _ (search needs) (search needs) _ (c .before .before .before .is-parallel .ensures) (c .before .before .if3 .left))
-
-loop-holds : tie.Need-loop-holds Inv-loop μ-loop
-loop-holds c =
-    let s = c .before .before .before .before .before in
-    (search needs, ap (firstFit _ _ _) (sym (start (s .args .t1) (search needs) (long s (search needs)))))
+array-copy-out-from : tie.Need-array-copy-out-from Inv-loop μ-loop
+array-copy-out-from c = search needs
 
 mul-to : tie.Need-mul-to Inv-loop μ-loop
 mul-to c = search needs
 
-element-copy-out-to : tie.Need-element-copy-out-to Inv-loop μ-loop
-element-copy-out-to c = search needs
+array-copy-out-to : tie.Need-array-copy-out-to Inv-loop μ-loop
+array-copy-out-to c = search needs
 
 spans-lat-requires : tie.Need-spans-lat-requires Inv-loop μ-loop
 spans-lat-requires c κs = search needs
@@ -85,8 +111,8 @@ spans-lat-requires c κs = search needs
 mul-n : tie.Need-mul-n Inv-loop μ-loop
 mul-n c = search needs
 
-element-copy-out-n : tie.Need-element-copy-out-n Inv-loop μ-loop
-element-copy-out-n c = search needs
+array-copy-out-n : tie.Need-array-copy-out-n Inv-loop μ-loop
+array-copy-out-n c = search needs
 
 point-of-requires : tie.Need-point-of-requires Inv-loop μ-loop
 point-of-requires c κs = search needs
@@ -102,14 +128,14 @@ enum-told c = search needs
 
 -- the edge fits, so that its crossing is the answer
 fit : (c : tie.After-point-of Inv-loop μ-loop)
-    → let a = c .before .before .before .before .before .before .before .before .before .before .before .before .args in
-    firstOf (listed (c .point-of .result)) ≡ parallelFirstOf (viewOf (a .t1)) (a .lat) (a .lat-sin) (a .lat-cos)
+    → let s = c .before .before .before .before .before .before .before .before .before .before .before .before .before .before .before in
+    firstOf (listed (c .point-of .result)) ≡ parallelFirstOf (viewOf (s .args .r)) (s .args .lat) (s .args .lat-sin) (s .args .lat-cos)
 fit c =
-    let s = c .before .before .before .before .before .before .before .before .before .before .before .before in
-    let l = c .before .before .before .before .before .before .loop in
-    let spans = sym (c .before .before .before .spans-lat .ensures) ∙ c .before .before .if4 .taken in
-    ap firstOf (fit-here (s .args .t1) (s .args .lat) (s .args .lat-sin) (s .args .lat-cos) (l .from) (l .i) (long s (search needs)) (long' s (search needs)) (search needs) (c .point-of .result) spans (c .point-of .ensures))
-    ∙ answer (c .before .before .before .before .before .before)
+    let s = c .before .before .before .before .before .before .before .before .before .before .before .before .before .before .before in
+    let x = c .before .before .before .before .before .before .before .before in
+    let spans = sym (c .before .before .before .spans-lat .ensures) ∙ c .before .before .if5 .taken in
+    ap firstOf (fit-here (region s) (s .args .lat) (s .args .lat-sin) (s .args .lat-cos) (getD (s .args .r .vertices) (x .loop .before) nowhere) (x .loop .i) (long s (search needs)) (long' s (search needs)) (search needs) (c .point-of .result) spans (c .point-of .ensures))
+    ∙ answer x
 
 returns-4 : tie.Need-returns-4 Inv-loop μ-loop
 returns-4 c =
@@ -124,8 +150,8 @@ enum-told-2 c = search needs
 
 -- a crossing that is passed on is the answer
 met : (c : tie.After-test-finite Inv-loop μ-loop) (d : Crossing)
-    → let a = c .before .before .before .before .before .before .before .before .before .before .before .before .before .args in
-    c .test-finite .result ≡ tested.Crossing d → answered (listed d) ≡ parallelFirstOf (viewOf (a .t1)) (a .lat) (a .lat-sin) (a .lat-cos)
+    → let s = c .before .before .before .before .before .before .before .before .before .before .before .before .before .before .before .before in
+    c .test-finite .result ≡ tested.Crossing d → answered (listed d) ≡ parallelFirstOf (viewOf (s .args .r)) (s .args .lat) (s .args .lat-sin) (s .args .lat-cos)
 met c d e = only-passed (c .before .point-of .result) d (ap testedAnswer (sym e) ∙ c .test-finite .ensures) ∙ fit (c .before)
 
 returns-5 : tie.Need-returns-5 Inv-loop μ-loop
@@ -142,16 +168,21 @@ loop-less c = search needs
 
 loop-again : tie.Need-loop-again Inv-loop μ-loop
 loop-again c =
-    let s = c .before .before .before .before .before .before .before .before .before .before in
-    let l = c .before .before .before .before .loop in
-    (search needs, sym (fit-not (s .args .t1) _ _ _ (l .from) (l .i) (long s (search needs)) (long' s (search needs)) (search needs) (sym (c .before .spans-lat .ensures) ∙ c .if4 .left)) ∙ l .inv .1)
+    let s = c .before .before .before .before .before .before .before .before .before in
+    let l = c .before .before .loop in
+    ⊎-elim
+    (λ w. (search needs, search needs, w .5, sym (fit-not (region s) _ _ _ (getD (s .args .r .vertices) (l .before) nowhere) (l .i) (long s (search needs)) (long' s (search needs)) (search needs) (sym (w .3 .ensures) ∙ w .4 .left)) ∙ l .inv .3))
+    (λ w.
+    let same = alike _ _ (w .0 .left) in
+    (search needs, search needs, w .1 ∙ same, sym (fit-not (region s) _ _ _ (getD (s .args .r .vertices) (l .before) nowhere) (l .i) (long s (search needs)) (long' s (search needs)) (search needs) (one-side _ _ _ (sym (l .inv .2) ∙ same))) ∙ l .inv .3))
+    (c .if4 .came)
 
 returns-7 : tie.Need-returns-7 Inv-loop μ-loop
 unfolding firstOf
 returns-7 c =
-    let s = c .before .before .before .before .before .before .before in
+    let s = c .before .before .before .before .before .before .before .before in
     let l = c .before .loop in
-    ap firstOf (sym (fit-nowhere (s .args .t1) (s .args .lat) (s .args .lat-sin) (s .args .lat-cos) (l .from) (l .i) (long s (search needs)) (c .loop-test .left))) ∙ answer (c .before)
+    ap firstOf (sym (fit-nowhere (region s) (s .args .lat) (s .args .lat-sin) (s .args .lat-cos) (getD (s .args .r .vertices) (l .before) nowhere) (l .i) (long s (search needs)) (c .loop-test .left))) ∙ answer (c .before)
 
 pub intersect-parallel-spec : {M : Type 1} → statement M
 intersect-parallel-spec =
@@ -163,15 +194,19 @@ intersect-parallel-spec =
     returns-2
     is-parallel-requires
     returns-3
-    sub-last
-    mul-from
-    element-copy-out-from
+    sub-before
+    mul-from-below
+    element-copy-out-from-below
     loop-holds
+    mul-to-below
+    element-copy-out-to-below
+    mul-from
+    array-copy-out-from
     mul-to
-    element-copy-out-to
+    array-copy-out-to
     spans-lat-requires
     mul-n
-    element-copy-out-n
+    array-copy-out-n
     point-of-requires
     test-finite-requires
     enum-known-c
