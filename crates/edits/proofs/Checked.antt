@@ -12,10 +12,12 @@ use Rattle.domain.specs.Checks.{pointAt, withCount}
 use Rattle.domain.proofs.Counts.{count-none, count-many, count-few}
 use Rattle.domain.proofs.Points.{point-refused}
 use Rattle.lists.proofs.Cyclic.{same-or-not}
-use Rattle.refusal.specs.Answer.{Answer, answered, refused, refusedFor, refuseIf, andThen, outcomeOf}
+use Rattle.refusal.specs.Answer.{Answer, answered, refused, refusedFor, refuseIf, andThen, outcomeOf, decisionAnswer}
 use Rattle.refusal.specs.declared.Cause.{Cause}
+use Rattle.refusal.specs.declared.Decision.{Decision}
+use Rattle.refusal.specs.declared.Outcome.{Outcome}
 use Rattle.refusal.specs.declared.Outcome.the-variants.{Done, Refused}
-use Rattle.refusal.proofs.Answers.{never}
+use Rattle.refusal.proofs.Answers.{never, then-same, then-assoc}
 use Rattle.region.specs.declared.Region.{Region}
 use Rattle.region.specs.declared.ContainsSouthPoleMethod.{ContainsSouthPoleMethod}
 use Rattle.region.specs.View.{View, viewOf, withFlag, contained}
@@ -149,14 +151,42 @@ module _ (v : View) where
   unfolding editOf checked flagOf changed
   rule-by m = by-flag v rule (λ k. ruleFlag k v) (λ b. b) (λ k. refl) (v .count) (ruleAt (v .count) m)
 
-  pub hold-done : (p : Coo3D) (b : Bool) (w : View) → answered b ≡ containsOf v p → w ≡ withFlag v (cond b (v .flag) (not (v .flag))) → editOf (hold p) v ≡ answered w
-  hold-done p b w e is = rw (hold-by p, sym e, is)
+  -- what `flagged` answers by the region's decision is what the edit does
+  pub hold-flagged : (p : Coo3D) (d : Decision) → decisionAnswer d ≡ containsOf v p → andThen (decisionAnswer d) (λ b. answered (withFlag v (cond b (v .flag) (not (v .flag))))) ≡ editOf (hold p) v
+  hold-flagged p d e = rw (hold-by p, e)
 
-  pub hold-refused : (p : Coo3D) (k : ℕ) (vs : List ℕ) → refused k vs ≡ containsOf v p → editOf (hold p) v ≡ refused k vs
-  hold-refused p k vs e = rw (hold-by p, sym e)
+  pub rule-flagged : (m : ContainsSouthPoleMethod) (d : Decision) → decisionAnswer d ≡ flagOf v m → andThen (decisionAnswer d) (λ b. answered (withFlag v (cond b true false))) ≡ editOf (rule m) v
+  rule-flagged m d e = ap (λ (x : Answer Bool). andThen x (λ b. answered (withFlag v (cond b true false)))) e ∙ then-same (flagOf v m) _ _ same ∙ sym (rule-by m)
+    where
+      same : (b : Bool) → _≡_ {A = Answer View} (answered (withFlag v (cond b true false))) (answered (withFlag v b))
+      same true = refl
+      same false = refl
 
-  pub rule-done : (m : ContainsSouthPoleMethod) (b : Bool) (w : View) → answered b ≡ flagOf v m → w ≡ withFlag v b → editOf (rule m) v ≡ answered w
-  rule-done m b w e is = rw (rule-by m, sym e, is)
+-- ---- a flag by a decision
 
-  pub rule-refused : (m : ContainsSouthPoleMethod) (k : ℕ) (vs : List ℕ) → refused k vs ≡ flagOf v m → editOf (rule m) v ≡ refused k vs
-  rule-refused m k vs e = rw (rule-by m, sym e)
+-- what is done refuses for no cause
+pub not-refused : {A : Type 0} (cause : Cause) → Done ≡ Refused cause → A
+not-refused cause q = never {A = Bool} (ap (λ x. outcomeOf x true) (sym q))
+
+pub flag-set : (d : Decision) (in-it out-of-it old b : Bool) → decisionAnswer d ≡ answered b
+    → (answered (cond b in-it out-of-it) ≡ andThen (decisionAnswer d) (λ k. answered (cond k in-it out-of-it))) × ((cause : Cause) → Done ≡ Refused cause → cond b in-it out-of-it ≡ old)
+flag-set d in-it out-of-it old b e = (rw e, λ cause q. not-refused cause q)
+
+pub flag-kept : (d : Decision) (in-it out-of-it old : Bool) (cause : Cause) → decisionAnswer d ≡ refusedFor cause
+    → (refusedFor cause ≡ andThen (decisionAnswer d) (λ k. answered (cond k in-it out-of-it))) × ((k : Cause) → Refused cause ≡ Refused k → old ≡ old)
+flag-kept d in-it out-of-it old cause e = (rw e, λ k q. refl)
+
+-- and so it is beside the view that has the flag
+pub view-flagged : (v : View) (d : Decision) (in-it out-of-it : Bool) (o : Outcome) (flag : Bool) → outcomeOf o flag ≡ andThen (decisionAnswer d) (λ k. answered (cond k in-it out-of-it))
+    → outcomeOf o (withFlag v flag) ≡ andThen (decisionAnswer d) (λ k. answered (withFlag v (cond k in-it out-of-it)))
+view-flagged v d in-it out-of-it o flag e = beside o ∙ ap (λ (x : Answer Bool). andThen x put-in) e ∙ then-assoc (decisionAnswer d) (λ k. answered (cond k in-it out-of-it)) put-in
+  where
+    put-in : Bool → Answer View
+    put-in k = answered (withFlag v k)
+
+    beside : (x : Outcome) → outcomeOf x (withFlag v flag) ≡ andThen (outcomeOf x flag) put-in
+    beside Done = refl
+    beside (Refused cause) = refl
+
+pub flag-back : (r : Region) (flag : Bool) → flag ≡ r .«contains_south_pole» → record { vertices = r .vertices; «cross_products» = r .«cross_products»; count = r .count; «contains_south_pole» = flag } ≡ r
+flag-back r flag e = rw e

@@ -1,10 +1,13 @@
 // Edits of a region. A corner changed costs the normals it touches, and the region is still the one that a fresh build would give: the theorem in
 // specs/Theorem.antt. Upstream has `must_contain` alone.
 ghost use mathlib.Core.Path.{_≡_};
+ghost use mathlib.Core.Bool.{cond};
 ghost use Prim.Native.Nat.{_-_, _≤_, _<_};
 ghost use Rattle.lists.specs.Cyclic.{prevOf, nextOf, thereOf};
 ghost use Rattle.region.specs.View.{viewOf, withFlag};
 ghost use Rattle.edits.specs.Edits.{Edited, changed};
+ghost use Rattle.refusal.specs.Answer.{answered, andThen, outcomeOf, decisionAnswer};
+ghost use Rattle.refusal.specs.declared.Cause.{Cause};
 ghost use Rattle.refusal.specs.declared.Outcome.{Outcome};
 ghost use Rattle.edits.specs.Edits as edit;
 use coo3d::Coo3D;
@@ -226,15 +229,49 @@ pub fn turn(r: Region) -> EditAnswer
     with_flag(r, !r.contains_south_pole)
 }
 
+// A flag beside an outcome.
+struct Flag {
+    flag: bool,
+    outcome: Outcome,
+}
+
+// The flag that a decision sets; a refusal keeps the old one.
+fn flag_by(d: Decision, yes: bool, no: bool, old: bool) -> Flag
+    ensures { λ f. ⌜ (outcomeOf (f .outcome) (f .flag) ≡ andThen (decisionAnswer d) (λ b. answered (cond b yes no))) × ((cause : Cause) → f .outcome ≡ Outcome.Refused cause → f .flag ≡ old) ⌝ }
+{
+    match d {
+        Decision::Yes => Flag {
+            flag: yes,
+            outcome: Outcome::Done,
+        },
+        Decision::No => Flag {
+            flag: no,
+            outcome: Outcome::Done,
+        },
+        Decision::Refused(cause) => Flag {
+            flag: old,
+            outcome: Outcome::Refused(cause),
+        },
+    }
+}
+
+// The region with the flag that a decision sets. Its one copy is made where all cases have met.
+fn flagged(r: Region, d: Decision, yes: bool, no: bool) -> EditAnswer
+    ensures { λ a. ⌜ (outcomeOf (a .outcome) (viewOf (a .region)) ≡ andThen (decisionAnswer d) (λ b. answered (withFlag (viewOf r) (cond b yes no)))) × ((cause : Cause) → a .outcome ≡ Outcome.Refused cause → a .region ≡ r) ⌝ }
+{
+    let by = flag_by(d, yes, no, r.contains_south_pole);
+    let outcome = by.outcome;
+    let mut region = r;
+    region.contains_south_pole = by.flag;
+    EditAnswer { region, outcome }
+}
+
 // Upstream: `must_contain`. The flag is turned where the point isn't contained.
 pub fn hold(r: Region, coo: Coo3D) -> EditAnswer
     ensures { λ a. ⌜ Edited (edit.hold coo) r a ⌝ }
 {
-    match region::contains(r, coo) {
-        Decision::Yes => with_flag(r, r.contains_south_pole),
-        Decision::No => with_flag(r, !r.contains_south_pole),
-        Decision::Refused(cause) => refused(r, cause),
-    }
+    let flag = r.contains_south_pole;
+    flagged(r, region::contains(r, coo), flag, !flag)
 }
 
 // The same on a lent region, which a refusal leaves as it was.
@@ -250,9 +287,5 @@ pub fn hold_lent(r: &mut Region, coo: Coo3D) -> Outcome
 pub fn rule(r: Region, method: ContainsSouthPoleMethod) -> EditAnswer
     ensures { λ a. ⌜ Edited (edit.rule method) r a ⌝ }
 {
-    match region::contains_south_pole(r, method) {
-        Decision::Yes => with_flag(r, true),
-        Decision::No => with_flag(r, false),
-        Decision::Refused(cause) => refused(r, cause),
-    }
+    flagged(r, region::contains_south_pole(r, method), true, false)
 }

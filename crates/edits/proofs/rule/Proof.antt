@@ -1,7 +1,6 @@
 -- `edits::rule` meets its contract. Assumes nothing.
-use mathlib.Core.Path.{sym, ap, _∙_}
-use Rattle.refusal.specs.Answer.{decisionAnswer}
-use Rattle.edits.proofs.Checked.{refused-edit, done-edit, rule-done, rule-refused}
+use mathlib.Core.Path.{_∙_}
+use Rattle.edits.proofs.Checked.{rule-flagged}
 use borrow.Author.Needs.{needs}
 use Rattle.edits.proofs.rule.Statement.{statement}
 use Rattle.edits.proofs.rule.Tie as tie
@@ -9,44 +8,11 @@ use Rattle.edits.proofs.rule.Tie as tie
 contains-south-pole-requires : tie.Need-contains-south-pole-requires
 contains-south-pole-requires c κs = search needs
 
-enum-told : tie.Need-enum-told
-enum-told c = search needs
-
-with-flag-requires : tie.Need-with-flag-requires
-with-flag-requires c κs = search needs
-
-enum-told-2 : tie.Need-enum-told-2
-enum-told-2 c = search needs
-
-with-flag-requires-2 : tie.Need-with-flag-requires-2
-with-flag-requires-2 c κs = search needs
-
-enum-known-cause : tie.Need-enum-known-cause
-enum-known-cause c = search needs
-
-refused-requires : tie.Need-refused-requires
-refused-requires c κs = search needs
+flagged-requires : tie.Need-flagged-requires
+flagged-requires c κs = search needs
 
 returns : tie.Need-returns
-returns c = done-edit _ _ _ (c .with-flag .ensures .0) (rule-done _ _ _ _ (ap decisionAnswer (sym (c .before .enum-told .given .1)) ∙ c .before .before .before .contains-south-pole .ensures) (c .with-flag .ensures .1))
-
-returns-2 : tie.Need-returns-2
-returns-2 c = done-edit _ _ _ (c .with-flag2 .ensures .0) (rule-done _ _ _ _ (ap decisionAnswer (sym (c .before .enum-told2 .given .1)) ∙ c .before .before .before .contains-south-pole .ensures) (c .with-flag2 .ensures .1))
-
-returns-3 : tie.Need-returns-3
-returns-3 c = refused-edit _ _ _ _ (c .refused .ensures) (rule-refused _ _ _ _ (ap decisionAnswer (sym (c .before .before .cause .given .1)) ∙ c .before .before .before .before .contains-south-pole .ensures))
+returns c = record { answer = c .flagged .ensures .0 ∙ rule-flagged _ _ (c .before .contains-south-pole .result) (c .before .contains-south-pole .ensures); kept = c .flagged .ensures .1 }
 
 pub rule-spec : {M : Type 1} → statement M
-rule-spec =
-    tie.close
-    (tie.spec
-    contains-south-pole-requires
-    enum-told
-    with-flag-requires
-    enum-told-2
-    with-flag-requires-2
-    enum-known-cause
-    refused-requires
-    returns
-    returns-2
-    returns-3)
+rule-spec = tie.close (tie.spec contains-south-pole-requires flagged-requires returns)
