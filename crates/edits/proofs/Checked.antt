@@ -6,7 +6,7 @@ use mathlib.Core.Logic.{⊎-elim}
 use mathlib.Core.Bool.{Bool, true, false, not, cond}
 use mathlib.Core.List.{List, [], _∷_}
 use lib.Dec.{eqb, ltb}
-use borrow.Author.Tests.{eq-eqb, ne-eqb, le-ltb, lt-ltb}
+use borrow.Author.Tests.{ltb-true, ltb-false, eqb-false, eq-eqb, ne-eqb, le-ltb, lt-ltb}
 use Rattle.coo3d.specs.declared.Coo3D.{Coo3D}
 use Rattle.domain.specs.Checks.{pointAt, withCount}
 use Rattle.domain.proofs.Counts.{count-none, count-many, count-few}
@@ -17,7 +17,7 @@ use Rattle.refusal.specs.declared.Cause.{Cause}
 use Rattle.refusal.specs.declared.Decision.{Decision}
 use Rattle.refusal.specs.declared.Outcome.{Outcome}
 use Rattle.refusal.specs.declared.Outcome.the-variants.{Done, Refused}
-use Rattle.refusal.proofs.Answers.{never, then-same, then-assoc}
+use Rattle.refusal.proofs.Answers.{never, passed, then-same, then-assoc}
 use Rattle.region.specs.declared.Region.{Region}
 use Rattle.region.specs.declared.ContainsSouthPoleMethod.{ContainsSouthPoleMethod}
 use Rattle.region.specs.View.{View, viewOf, withFlag, contained}
@@ -71,19 +71,6 @@ module _ (n : ℕ) (some : n ≡ 0 → ⊥) (few : n ≤ 64) where
   unfolding checked
   turn-done = count-few n _ some few
 
-  module _ (i : ℕ) (p : Coo3D) where
-    pub put-index : n ≤ i → checked n (put i p) ≡ refused 4 []
-    unfolding checked
-    put-index h = rw (count-few n _ some few, le-ltb _ _ h)
-
-    pub put-point : i < n → (k : ℕ) (vs : List ℕ) → refused k vs ≡ pointAt 0 p → checked n (put i p) ≡ refused 1 (0 ∷ [])
-    unfolding checked
-    put-point h k vs e = rw (count-few n _ some few, lt-ltb i n h, point-refused 0 p k vs e)
-
-    pub put-done : i < n → (q : Coo3D) → answered q ≡ pointAt 0 p → checked n (put i p) ≡ answered (put i q)
-    unfolding checked
-    put-done h q e = rw (count-few n _ some few, lt-ltb i n h, sym e)
-
   module _ (i : ℕ) (several : n ≡ 1 → ⊥) where
     pub remove-index : n ≤ i → checked n (remove i) ≡ refused 4 []
     unfolding checked
@@ -111,6 +98,49 @@ module _ (n : ℕ) (some : n ≡ 0 → ⊥) (room : n < 64) (i : ℕ) (p : Coo3D
   pub insert-done : i ≤ n → (q : Coo3D) → answered q ≡ pointAt 0 p → checked n (insert i p) ≡ answered (insert i q)
   unfolding checked
   insert-done h q e = rw (count-few n _ some few, ne-eqb n 64 not-full, le-ltb _ _ h, sym e)
+
+-- ---- put and insert: the same tests of their corner, in the same order
+
+abbrev asked : ℕ → ℕ → Bool → Coo3D → Answer Coo3D
+asked n most there p = refuseIf (eqb n 0) 2 [] (refuseIf (ltb most n) 3 [] (refuseIf (not there) 4 [] (pointAt 0 p)))
+
+-- an answer says that each test let it pass
+asked-passed : (n most : ℕ) (there : Bool) (p q : Coo3D) → answered q ≡ asked n most there p → (0 < n) × ((n ≤ most) × (there ≡ true))
+asked-passed n most there p q e =
+    let a = passed (eqb n 0) 2 [] _ q (sym e) in
+    let b = passed (ltb most n) 3 [] _ q (a .1) in
+    let c = passed (not there) 4 [] _ q (b .1) in
+    (some n (eqb-false n 0 (a .0)), (ltb-false most n (b .0), is there (c .0)))
+  where
+    some : (n : ℕ) → (n ≡ 0 → ⊥) → 0 < n
+    some n h = omega arith
+
+    is : (b : Bool) → not b ≡ false → b ≡ true
+    is true h = refl
+    is false h = sym h
+
+asked-then : (k : Coo3D → Edit) (none many away : Bool) (x : Answer Coo3D)
+    → refuseIf none 2 [] (refuseIf many 3 [] (refuseIf away 4 [] (andThen x (λ q. answered (k q))))) ≡ andThen (refuseIf none 2 [] (refuseIf many 3 [] (refuseIf away 4 [] x))) (λ q. answered (k q))
+asked-then k true many away x = refl
+asked-then k false true away x = refl
+asked-then k false false true x = refl
+asked-then k false false false x = refl
+
+module _ (n i : ℕ) (p : Coo3D) where
+  pub put-asked : checked n (put i p) ≡ andThen (asked n 64 (ltb i n) p) (λ q. answered (put i q))
+  unfolding checked
+  put-asked = asked-then (put i) (eqb n 0) (ltb 64 n) (not (ltb i n)) (pointAt 0 p)
+
+  pub put-inside : (q : Coo3D) → answered q ≡ asked n 64 (ltb i n) p → (0 < n) × ((n ≤ 64) × (i < n))
+  put-inside q e = let k = asked-passed n 64 (ltb i n) p q e in (k .0, (k .1 .0, ltb-true i n (k .1 .1)))
+
+-- what the table says by what was asked
+module _ (k : Coo3D → Edit) {x : Answer Coo3D} {t : Answer Edit} (table : t ≡ andThen x (λ q. answered (k q))) where
+  pub asked-refused : (number : ℕ) (values : List ℕ) → refused number values ≡ x → t ≡ refused number values
+  asked-refused number values is = table ∙ ap (λ (y : Answer Coo3D). andThen y (λ q. answered (k q))) (sym is)
+
+  pub asked-done : (q : Coo3D) → answered q ≡ x → t ≡ answered (k q)
+  asked-done q is = table ∙ ap (λ (y : Answer Coo3D). andThen y (λ p. answered (k p))) (sym is)
 
 -- the 65th corner, and a count that never was one, are both 3
 pub insert-full : (n i : ℕ) (p : Coo3D) → (n ≡ 0 → ⊥) → 64 ≤ n → checked n (insert i p) ≡ refused 3 []

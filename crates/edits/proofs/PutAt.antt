@@ -1,4 +1,4 @@
--- What `put_at` stores, seen below the count, is what the edit `put` changes. Assumes nothing.
+-- What `put` stores, seen below the count, is what the edit `put` changes. Assumes nothing.
 use Prim.Native.Nat.{ℕ, _≤_, _<_}
 use native.Mathlib.Omega.{arith}
 use mathlib.Core.Path.{_≡_, sym, ap, _∙_}

@@ -1,12 +1,15 @@
 // Edits of a region. A corner changed costs the normals it touches, and the region is still the one that a fresh build would give: the theorem in
 // specs/Theorem.antt. Upstream has `must_contain` alone.
 ghost use mathlib.Core.Path.{_≡_};
-ghost use mathlib.Core.Bool.{cond};
+ghost use mathlib.Core.Bool.{cond, not};
+ghost use mathlib.Core.List.{[]};
 ghost use Prim.Native.Nat.{_-_, _≤_, _<_};
+ghost use lib.Dec.{eqb, ltb};
 ghost use Rattle.lists.specs.Cyclic.{prevOf, nextOf, thereOf};
 ghost use Rattle.region.specs.View.{viewOf, withFlag};
 ghost use Rattle.edits.specs.Edits.{Edited, changed};
-ghost use Rattle.refusal.specs.Answer.{answered, andThen, outcomeOf, decisionAnswer};
+ghost use Rattle.domain.specs.Checks.{pointAnswer, pointAt};
+ghost use Rattle.refusal.specs.Answer.{answered, refuseIf, andThen, outcomeOf, decisionAnswer};
 ghost use Rattle.refusal.specs.declared.Cause.{Cause};
 ghost use Rattle.refusal.specs.declared.Outcome.{Outcome};
 ghost use Rattle.edits.specs.Edits as edit;
@@ -35,7 +38,7 @@ fn index_before(n: usize, i: usize) -> usize
 // The index after i, of n.
 fn next_index(n: usize, i: usize) -> usize
     requires { ⌜ (i < n) × (n ≤ 64) ⌝ }
-    ensures { λ j. ⌜ (j ≡ nextOf n i) × (j < n) ⌝ }
+    ensures { λ j. ⌜ (j ≡ nextOf n i) × ((j < n) × ((i < n) × (n ≤ 64))) ⌝ }
 {
     if i + 1 == n { 0 } else { i + 1 }
 }
@@ -46,36 +49,6 @@ fn index_left(n: usize, i: usize) -> usize
     ensures { λ j. ⌜ (j ≡ thereOf n i) × (j < n - 1) ⌝ }
 {
     if i + 1 == n { 0 } else { i }
-}
-
-// The corner at i is p: its two edges' normals are worked out, at count 1 the one edge's.
-fn put_at(r: Region, i: usize, p: Coo3D) -> EditAnswer
-    requires { ⌜ (i < r .count) × (r .count ≤ 64) ⌝ }
-    ensures { λ a. ⌜ (a .outcome ≡ Outcome.Done) × (viewOf (a .region) ≡ changed (edit.put i p) (viewOf r)) ⌝ }
-{
-    let count = r.count;
-    let h = index_before(count, i);
-    let j = next_index(count, i);
-    let mut region = r;
-    let from = region.vertices[h];
-    region.vertices[i] = p;
-    if count == 1 {
-        let only = region::edge_normal(p, p);
-        region.cross_products[i] = only;
-        return EditAnswer {
-            region,
-            outcome: Outcome::Done,
-        };
-    }
-    let to = region.vertices[j];
-    let first = region::edge_normal(from, p);
-    let second = region::edge_normal(p, to);
-    region.cross_products[i] = first;
-    region.cross_products[j] = second;
-    EditAnswer {
-        region,
-        outcome: Outcome::Done,
-    }
 }
 
 // p stands before corner i: the new corner's two normals are worked out, the others move with their corners.
@@ -149,23 +122,55 @@ fn refused(r: Region, cause: Cause) -> EditAnswer
     }
 }
 
+// The corner to be set, after the table's tests in their order: the count, the index, the point.
+fn corner_for(count: usize, most: usize, there: bool, corner: Coo3D) -> PointCheck
+    ensures { λ k. ⌜ pointAnswer k ≡ refuseIf (eqb count 0) 2 [] (refuseIf (ltb most count) 3 [] (refuseIf (not there) 4 [] (pointAt 0 corner))) ⌝ }
+{
+    if count == 0 {
+        return PointCheck::Refused(Cause::NoPoint);
+    }
+    if count > most {
+        return PointCheck::Refused(Cause::TooManyPoints);
+    }
+    if !there {
+        return PointCheck::Refused(Cause::NoSuchIndex);
+    }
+    domain::check_point(corner, 0)
+}
+
+// The two normals that touch the corner are worked out, at count 1 the one edge's. Each answer is made of the same copy, so that it is the only one.
 pub fn put(r: Region, i: usize, corner: Coo3D) -> EditAnswer
     ensures { λ a. ⌜ Edited (edit.put i corner) r a ⌝ }
 {
     let count = r.count;
-    if count == 0 {
-        return refused(r, Cause::NoPoint);
+    let check = corner_for(count, 64, i < count, corner);
+    let mut region = r;
+    match check {
+        PointCheck::Refused(cause) => EditAnswer {
+            region,
+            outcome: Outcome::Refused(cause),
+        },
+        PointCheck::Point(p) => {
+            let j = next_index(count, i);
+            let h = index_before(count, i);
+            let from = region.vertices[h];
+            region.vertices[i] = p;
+            if count == 1 {
+                let only = region::edge_normal(p, p);
+                region.cross_products[i] = only;
+            } else {
+                let to = region.vertices[j];
+                let first = region::edge_normal(from, p);
+                let second = region::edge_normal(p, to);
+                region.cross_products[i] = first;
+                region.cross_products[j] = second;
+            }
+            EditAnswer {
+                region,
+                outcome: Outcome::Done,
+            }
+        }
     }
-    if count > 64 {
-        return refused(r, Cause::TooManyPoints);
-    }
-    if i >= count {
-        return refused(r, Cause::NoSuchIndex);
-    }
-    let PointCheck::Point(p) = domain::check_point(corner, 0) else {
-        return refused(r, Cause::OutsideDomain(0));
-    };
-    put_at(r, i, p)
 }
 
 // Before corner i; i equal to the count appends.

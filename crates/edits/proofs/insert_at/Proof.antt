@@ -109,7 +109,7 @@ returns c =
     let l = c .before .before .before .before .loop .inv in
     let next = c .before .before .before .before .before .before .next-index in
     let from = before-at (a .r .vertices) (a .r .count) (a .i) _ (search needs) (search needs) (long s) (c .before .before .before .before .before .before .before .index-before .ensures .0) in
-    (refl, inserted l (search needs) (search needs) _ (a .p) _ _ _ (long s) from (next .ensures .0) (next .ensures .1) (c .before .edge-normal .ensures) (c .edge-normal2 .ensures))
+    (refl, inserted l (search needs) (search needs) _ (a .p) _ _ _ (long s) from (next .ensures .0) (next .ensures .1 .0) (c .before .edge-normal .ensures) (c .edge-normal2 .ensures))
 
 pub insert-at-spec : {M : Type 1} → statement M
 insert-at-spec =
