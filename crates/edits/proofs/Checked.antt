@@ -5,8 +5,8 @@ use mathlib.Core.Path.{_≡_, refl, sym, ap, _∙_}
 use mathlib.Core.Logic.{⊎-elim}
 use mathlib.Core.Bool.{Bool, true, false, not, cond}
 use mathlib.Core.List.{List, [], _∷_}
-use lib.Dec.{eqb, ltb}
-use borrow.Author.Tests.{ltb-true, ltb-false, eqb-false, eq-eqb, ne-eqb, le-ltb, lt-ltb}
+use lib.Dec.{eqb, ltb, leb}
+use borrow.Author.Tests.{ltb-true, ltb-false, leb-true, leb-false, eqb-false, not-false, eq-eqb, ne-eqb, le-ltb, lt-ltb}
 use Rattle.coo3d.specs.declared.Coo3D.{Coo3D}
 use Rattle.domain.specs.Checks.{pointAt, withCount}
 use Rattle.domain.proofs.Counts.{count-none, count-many, count-few}
@@ -80,25 +80,6 @@ module _ (n : ℕ) (some : n ≡ 0 → ⊥) (few : n ≤ 64) where
     unfolding checked
     remove-done h = rw (count-few n _ some few, ne-eqb n 1 several, lt-ltb i n h)
 
-module _ (n : ℕ) (some : n ≡ 0 → ⊥) (room : n < 64) (i : ℕ) (p : Coo3D) where
-  abbrev few : n ≤ 64
-  few = omega arith
-
-  abbrev not-full : n ≡ 64 → ⊥
-  not-full = λ z. omega arith
-
-  pub insert-index : n < i → checked n (insert i p) ≡ refused 4 []
-  unfolding checked
-  insert-index h = rw (count-few n _ some few, ne-eqb n 64 not-full, lt-ltb n i h)
-
-  pub insert-point : i ≤ n → (k : ℕ) (vs : List ℕ) → refused k vs ≡ pointAt 0 p → checked n (insert i p) ≡ refused 1 (0 ∷ [])
-  unfolding checked
-  insert-point h k vs e = rw (count-few n _ some few, ne-eqb n 64 not-full, le-ltb _ _ h, point-refused 0 p k vs e)
-
-  pub insert-done : i ≤ n → (q : Coo3D) → answered q ≡ pointAt 0 p → checked n (insert i p) ≡ answered (insert i q)
-  unfolding checked
-  insert-done h q e = rw (count-few n _ some few, ne-eqb n 64 not-full, le-ltb _ _ h, sym e)
-
 -- ---- put and insert: the same tests of their corner, in the same order
 
 abbrev asked : ℕ → ℕ → Bool → Coo3D → Answer Coo3D
@@ -110,14 +91,10 @@ asked-passed n most there p q e =
     let a = passed (eqb n 0) 2 [] _ q (sym e) in
     let b = passed (ltb most n) 3 [] _ q (a .1) in
     let c = passed (not there) 4 [] _ q (b .1) in
-    (some n (eqb-false n 0 (a .0)), (ltb-false most n (b .0), is there (c .0)))
+    (some n (eqb-false n 0 (a .0)), (ltb-false most n (b .0), not-false there (c .0)))
   where
     some : (n : ℕ) → (n ≡ 0 → ⊥) → 0 < n
     some n h = omega arith
-
-    is : (b : Bool) → not b ≡ false → b ≡ true
-    is true h = refl
-    is false h = sym h
 
 asked-then : (k : Coo3D → Edit) (none many away : Bool) (x : Answer Coo3D)
     → refuseIf none 2 [] (refuseIf many 3 [] (refuseIf away 4 [] (andThen x (λ q. answered (k q))))) ≡ andThen (refuseIf none 2 [] (refuseIf many 3 [] (refuseIf away 4 [] x))) (λ q. answered (k q))
@@ -134,6 +111,40 @@ module _ (n i : ℕ) (p : Coo3D) where
   pub put-inside : (q : Coo3D) → answered q ≡ asked n 64 (ltb i n) p → (0 < n) × ((n ≤ 64) × (i < n))
   put-inside q e = let k = asked-passed n 64 (ltb i n) p q e in (k .0, (k .1 .0, ltb-true i n (k .1 .1)))
 
+  pub insert-inside : (q : Coo3D) → answered q ≡ asked n 63 (leb i n) p → (0 < n) × ((n ≤ 63) × (i ≤ n))
+  insert-inside q e = let k = asked-passed n 63 (leb i n) p q e in (k .0, (k .1 .0, leb-true i n (k .1 .1)))
+
+  -- the 65th corner, and a count that never was one, are both 3
+  full-too : (next : Answer Edit) → refuseIf (ltb 64 n) 3 [] (refuseIf (eqb n 64) 3 [] next) ≡ refuseIf (ltb 63 n) 3 [] next
+  full-too next = go (ltb 63 n) refl
+    where
+      go : (b : Bool) → ltb 63 n ≡ b → refuseIf (ltb 64 n) 3 [] (refuseIf (eqb n 64) 3 [] next) ≡ refuseIf b 3 [] next
+      go true e =
+          let h = ltb-true 63 n e in
+          ⊎-elim
+          (λ (e : n ≡ 64). let few : n ≤ 64 = omega arith in rw (le-ltb 64 n few, eq-eqb n 64 e))
+          (λ (e : n ≡ 64 → ⊥). let more : 64 < n = omega (arith, h) in rw (lt-ltb 64 n more))
+          (same-or-not n 64)
+      go false e =
+          let h = ltb-false 63 n e in
+          let few : n ≤ 64 = omega (arith, h) in
+          let other : n ≡ 64 → ⊥ = λ (z : n ≡ 64). omega (arith, h, z) in
+          rw (le-ltb 64 n few, ne-eqb n 64 other)
+
+  not-there : ltb n i ≡ not (leb i n)
+  not-there = go (leb i n) refl
+    where
+      go : (b : Bool) → leb i n ≡ b → ltb n i ≡ not b
+      go true e = le-ltb n i (leb-true i n e)
+      go false e = lt-ltb n i (leb-false i n e)
+
+  pub insert-asked : checked n (insert i p) ≡ andThen (asked n 63 (leb i n) p) (λ q. answered (insert i q))
+  unfolding checked
+  insert-asked =
+      ap (λ (y : Answer Edit). refuseIf (eqb n 0) 2 [] y)
+      (full-too _ ∙ ap (λ (b : Bool). refuseIf (ltb 63 n) 3 [] (refuseIf b 4 [] (andThen (pointAt 0 p) (λ q. answered (insert i q))))) not-there)
+      ∙ asked-then (insert i) (eqb n 0) (ltb 63 n) (not (leb i n)) (pointAt 0 p)
+
 -- what the table says by what was asked
 module _ (k : Coo3D → Edit) {x : Answer Coo3D} {t : Answer Edit} (table : t ≡ andThen x (λ q. answered (k q))) where
   pub asked-refused : (number : ℕ) (values : List ℕ) → refused number values ≡ x → t ≡ refused number values
@@ -141,15 +152,6 @@ module _ (k : Coo3D → Edit) {x : Answer Coo3D} {t : Answer Edit} (table : t �
 
   pub asked-done : (q : Coo3D) → answered q ≡ x → t ≡ answered (k q)
   asked-done q is = table ∙ ap (λ (y : Answer Coo3D). andThen y (λ p. answered (k p))) (sym is)
-
--- the 65th corner, and a count that never was one, are both 3
-pub insert-full : (n i : ℕ) (p : Coo3D) → (n ≡ 0 → ⊥) → 64 ≤ n → checked n (insert i p) ≡ refused 3 []
-unfolding checked
-insert-full n i p some h =
-    ⊎-elim
-    (λ (e : n ≡ 64). let few : n ≤ 64 = omega arith in rw (count-few n _ some few, eq-eqb n 64 e))
-    (λ (e : n ≡ 64 → ⊥). let more : 64 < n = omega arith in count-many n _ some more)
-    (same-or-not n 64)
 
 -- no corner, and the only corner, are both 2
 pub remove-few : (n i : ℕ) → n ≤ 1 → checked n (remove i) ≡ refused 2 []

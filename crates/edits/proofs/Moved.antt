@@ -70,61 +70,55 @@ before-at l n (suc i) j some h long e =
 
 -- ---- making room: the entries from i on move up, the last first
 
-pub record Raising (r : Region) (n i : ℕ) (o : Region) (k : ℕ) : Type 0 where
-  pub least : i ≤ k
-  pub most : k ≤ n
-  pub vertices : length (o .vertices) ≡ 64
-  pub normals : length (o .«cross_products») ≡ 64
+module _ {A : Type 0} (d : A) where
+  pub record Raising (n i : ℕ) (before now : List A) (k : ℕ) : Type 0 where
+    pub least : i ≤ k
+    pub most : k ≤ n
+    pub size : length now ≡ 64
+    pub left : halves d now (n + 1) k ≡ take n before
+
+  pub raising-starts : (l : List A) (n i : ℕ) → length l ≡ 64 → i ≤ n → n < 64 → Raising n i l l n
+  raising-starts l n i e h few = record { least = h; most = omega arith; size = e; left = finished d l (n + 1) n refl (omega (arith, e, few)) }
+
+  pub raising-turn : {n i : ℕ} {before now : List A} {k : ℕ} → Raising n i before now k → i < k → n < 64 → Raising n i before (set now k (getD now (k - 1) d)) (k - 1)
+  raising-turn {n} {i} {before} {now} {k} inv above few =
+      let most = inv .most in
+      let e = inv .size in
+      record {
+        least = omega (arith, above);
+        most = omega (arith, most);
+        size = length-set now k _ ∙ e;
+        left = raised-at d now (n + 1) (k - 1) k (omega (arith, above)) (omega (arith, most)) (omega (arith, e, few)) ∙ inv .left;
+      }
+
+  pub raised-in : {n i : ℕ} {before now : List A} {k : ℕ} → Raising n i before now k → k ≤ i → n < 64 → (a : A) → take (n + 1) (set now i a) ≡ ins i a (take n before)
+  raised-in {n} {i} {before} {now} {k} inv past few a =
+      let least = inv .least in
+      let most = inv .most in
+      let e = inv .size in
+      let at : k ≡ i = omega (arith, past, least) in
+      filled d now (take n before) (n + 1) i a (omega (arith, past, least, most)) (omega (arith, e, few)) (subst (λ (x : ℕ). halves d now (n + 1) x ≡ take n before) at (inv .left))
+
+-- the corners move while all else stays, then the normals
+pub record RaisingCorners (r : Region) (n i : ℕ) (o : Region) (k : ℕ) : Type 0 where
+  pub corners : Raising nowhere n i (r .vertices) (o .vertices) k
+  pub normals : o .«cross_products» ≡ r .«cross_products»
   pub flag : o .«contains_south_pole» ≡ r .«contains_south_pole»
-  pub vertices-left : halves nowhere (o .vertices) (n + 1) k ≡ take n (r .vertices)
-  pub normals-left : halves nothing (o .«cross_products») (n + 1) k ≡ take n (r .«cross_products»)
 
-pub raising-starts : (r : Region) (n i : ℕ) → length (r .vertices) ≡ 64 → length (r .«cross_products») ≡ 64 → i ≤ n → n < 64 → Raising r n i r n
-raising-starts r n i e d h few =
-    record {
-      least = h;
-      most = omega arith;
-      vertices = e;
-      normals = d;
-      flag = refl;
-      vertices-left = finished nowhere (r .vertices) (n + 1) n refl (omega (arith, e, few));
-      normals-left = finished nothing (r .«cross_products») (n + 1) n refl (omega (arith, d, few));
-    }
+pub record RaisingNormals (r : Region) (n i : ℕ) (o : Region) (k : ℕ) : Type 0 where
+  pub normals : Raising nothing n i (r .«cross_products») (o .«cross_products») k
+  pub corners : o .vertices ≡ r .vertices
+  pub flag : o .«contains_south_pole» ≡ r .«contains_south_pole»
 
-pub raising-turn : {r : Region} {n i : ℕ} {o : Region} {k : ℕ} → Raising r n i o k → i < k → n < 64
-    → Raising r n i (record { vertices = set (o .vertices) k (getD (o .vertices) (k - 1) nowhere); «cross_products» = set (o .«cross_products») k (getD (o .«cross_products») (k - 1) nothing); count = o .count; «contains_south_pole» = o .«contains_south_pole» }) (k - 1)
-raising-turn {r} {n} {i} {o} {k} inv above few =
-    let most = inv .most in
-    let e = inv .vertices in
-    let d = inv .normals in
-    record {
-      least = omega (arith, above);
-      most = omega (arith, most);
-      vertices = length-set (o .vertices) k _ ∙ inv .vertices;
-      normals = length-set (o .«cross_products») k _ ∙ inv .normals;
-      flag = inv .flag;
-      vertices-left = raised-at nowhere (o .vertices) (n + 1) (k - 1) k (omega (arith, above)) (omega (arith, most)) (omega (arith, e, few)) ∙ inv .vertices-left;
-      normals-left = raised-at nothing (o .«cross_products») (n + 1) (k - 1) k (omega (arith, above)) (omega (arith, most)) (omega (arith, d, few)) ∙ inv .normals-left;
-    }
-
-pub inserted : {r : Region} {i : ℕ} {o : Region} {k : ℕ} → Raising r (r .count) i o k → k ≤ i → r .count < 64 → (j : ℕ) (p from : Coo3D) (a b : Vect3) → r .count ≤ length (r .vertices)
+pub inserted : {r one o : Region} {i k m : ℕ} → RaisingCorners r (r .count) i one k → k ≤ i → RaisingNormals one (r .count) i o m → m ≤ i → r .count < 64 → (j : ℕ) (p from : Coo3D) (a b : Vect3) → r .count ≤ length (r .vertices)
     → from ≡ beforeOf nowhere (take (r .count) (r .vertices)) i → j ≡ nextOf (r .count + 1) i → j < r .count + 1 → a ≡ normalOf from p → b ≡ normalOf p (getD (set (o .vertices) i p) j nowhere)
     → used (r .count + 1) (set (o .vertices) i p) (set (set (o .«cross_products») i a) j b) (o .«contains_south_pole») ≡ changed (insert i p) (viewOf r)
-inserted {r} {i} {o} {k} inv passed few j p from a b long hf hj below h1 h2 =
+inserted {r} {one} {o} {i} cs past ns also few j p from a b long hf hj below h1 h2 =
     let n = r .count in
-    let least = inv .least in
-    let most = inv .most in
-    let e = inv .vertices in
-    let d = inv .normals in
-    let at : k ≡ i = omega (arith, passed, least) in
-    let vs : take (n + 1) (set (o .vertices) i p) ≡ ins i p (take n (r .vertices)) =
-    filled nowhere (o .vertices) (take n (r .vertices)) (n + 1) i p (omega (arith, passed, least, most)) (omega (arith, e, few)) (subst (λ (x : ℕ). halves nowhere (o .vertices) (n + 1) x ≡ take n (r .vertices)) at (inv .vertices-left))
-    in
-    let ns : take (n + 1) (set (o .«cross_products») i a) ≡ ins i a (take n (r .«cross_products»)) =
-    filled nothing (o .«cross_products») (take n (r .«cross_products»)) (n + 1) i a (omega (arith, passed, least, most)) (omega (arith, d, few)) (subst (λ (x : ℕ). halves nothing (o .«cross_products») (n + 1) x ≡ take n (r .«cross_products»)) at (inv .normals-left))
-    in
-    ap (used (n + 1) (set (o .vertices) i p) (set (set (o .«cross_products») i a) j b)) (inv .flag)
-    ∙ view-inserted (r .vertices) (set (o .vertices) i p) (r .«cross_products») (set (o .«cross_products») i a) n i j (r .«contains_south_pole») from p a b long hf hj below vs h1 h2 ns
+    let vertices : take (n + 1) (set (o .vertices) i p) ≡ ins i p (take n (r .vertices)) = ap (λ (l : List Coo3D). take (n + 1) (set l i p)) (ns .corners) ∙ raised-in nowhere (cs .corners) past few p in
+    let normals : take (n + 1) (set (o .«cross_products») i a) ≡ ins i a (take n (r .«cross_products»)) = raised-in nothing (ns .normals) also few a ∙ ap (λ (l : List Vect3). ins i a (take n l)) (cs .normals) in
+    ap (used (n + 1) (set (o .vertices) i p) (set (set (o .«cross_products») i a) j b)) (ns .flag ∙ cs .flag)
+    ∙ view-inserted (r .vertices) (set (o .vertices) i p) (r .«cross_products») (set (o .«cross_products») i a) n i j (r .«contains_south_pole») from p a b long hf hj below vertices h1 h2 normals
 
 -- ---- closing a gap: the entries after i move down, the first first
 

@@ -51,38 +51,6 @@ fn index_left(n: usize, i: usize) -> usize
     if i + 1 == n { 0 } else { i }
 }
 
-// p stands before corner i: the new corner's two normals are worked out, the others move with their corners.
-fn insert_at(r: Region, i: usize, p: Coo3D) -> EditAnswer
-    requires { ⌜ (i ≤ r .count) × ((0 < r .count) × (r .count < 64)) ⌝ }
-    ensures { λ a. ⌜ (a .outcome ≡ Outcome.Done) × (viewOf (a .region) ≡ changed (edit.insert i p) (viewOf r)) ⌝ }
-{
-    let count = r.count;
-    let h = index_before(count, i);
-    let j = next_index(count + 1, i);
-    let mut region = r;
-    let from = region.vertices[h];
-    let mut k = count;
-    while k > i {
-        let l = k - 1;
-        let v = region.vertices[l];
-        let n = region.cross_products[l];
-        region.vertices[k] = v;
-        region.cross_products[k] = n;
-        k = l;
-    }
-    region.vertices[i] = p;
-    let to = region.vertices[j];
-    let before = region::edge_normal(from, p);
-    let after = region::edge_normal(p, to);
-    region.cross_products[i] = before;
-    region.cross_products[j] = after;
-    region.count = count + 1;
-    EditAnswer {
-        region,
-        outcome: Outcome::Done,
-    }
-}
-
 // Corner i is gone: the normal of the edge that closes the gap is worked out, the others move with their corners.
 fn remove_at(r: Region, i: usize) -> EditAnswer
     requires { ⌜ (i < r .count) × ((1 < r .count) × (r .count ≤ 64)) ⌝ }
@@ -173,24 +141,50 @@ pub fn put(r: Region, i: usize, corner: Coo3D) -> EditAnswer
     }
 }
 
-// Before corner i; i equal to the count appends.
+// Before corner i; i equal to the count appends. The new corner's two normals are worked out, the others move with their corners, each array in a
+// loop of its own: one loop over both was slower. The answer is made as put's is.
 pub fn insert(r: Region, i: usize, corner: Coo3D) -> EditAnswer
     ensures { λ a. ⌜ Edited (edit.insert i corner) r a ⌝ }
 {
     let count = r.count;
-    if count == 0 {
-        return refused(r, Cause::NoPoint);
+    let check = corner_for(count, 63, i <= count, corner);
+    let mut region = r;
+    match check {
+        PointCheck::Refused(cause) => EditAnswer {
+            region,
+            outcome: Outcome::Refused(cause),
+        },
+        PointCheck::Point(p) => {
+            let h = index_before(count, i);
+            let j = next_index(count + 1, i);
+            let from = region.vertices[h];
+            let mut k = count;
+            while k > i {
+                let l = k - 1;
+                let v = region.vertices[l];
+                region.vertices[k] = v;
+                k = l;
+            }
+            let mut m = count;
+            while m > i {
+                let l = m - 1;
+                let n = region.cross_products[l];
+                region.cross_products[m] = n;
+                m = l;
+            }
+            region.vertices[i] = p;
+            let to = region.vertices[j];
+            let before = region::edge_normal(from, p);
+            let after = region::edge_normal(p, to);
+            region.cross_products[i] = before;
+            region.cross_products[j] = after;
+            region.count = count + 1;
+            EditAnswer {
+                region,
+                outcome: Outcome::Done,
+            }
+        }
     }
-    if count >= 64 {
-        return refused(r, Cause::TooManyPoints);
-    }
-    if i > count {
-        return refused(r, Cause::NoSuchIndex);
-    }
-    let PointCheck::Point(p) = domain::check_point(corner, 0) else {
-        return refused(r, Cause::OutsideDomain(0));
-    };
-    insert_at(r, i, p)
 }
 
 pub fn remove(r: Region, i: usize) -> EditAnswer
