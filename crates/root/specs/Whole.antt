@@ -1,22 +1,13 @@
 -- Whole roots of whole numbers.
 use mathlib.Core.Path.{_≡_}
 use mathlib.Core.Bool.{cond}
-use Prim.Native.Nat.{ℕ, zero, suc, _+_, _*_, _/_, _^_, _≤_, _<_}
+use Prim.Native.Nat.{ℕ, zero, suc, _+_, _*_, _/_, _≤_}
 use lib.Dec.{leb}
 
 -- s is the whole part of the root of n, and r is what its square leaves
 pub record IsRoot (n s r : ℕ) : Type 0 where
   pub square : s * s + r ≡ n
   pub small : r ≤ 2 * s
-
--- a whole root s with remainder r that can grow by a digit in base b, as the digits m and c follow; the bounds keep all within 64 bits
-pub record Extends (s r b m c : ℕ) : Type 0 where
-  pub small : r ≤ 2 * s
-  pub base : b ≤ 2 * s
-  pub first : m < b
-  pub second : c < b
-  pub narrow : s < 2 ^ 32
-  pub short : b ≤ 2 ^ 22
 
 -- s, or s + 1 where its square is still within n
 abbrev pub lift : ℕ → ℕ → ℕ
