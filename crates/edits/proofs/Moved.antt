@@ -68,6 +68,18 @@ before-at l n (suc i) j some h long e =
     let d : suc i - 1 ≡ i = omega arith in
     rw (e, ne-eqb (suc i) 0 (λ (z : suc i ≡ 0). omega (arith, z)), d) (other l n i h)
 
+-- ---- one array moves while all else stays: the corners, then the normals
+
+pub record CornersMove (how : List Coo3D → Type 0) (r o : Region) : Type 0 where
+  pub corners : how (o .vertices)
+  pub normals : o .«cross_products» ≡ r .«cross_products»
+  pub flag : o .«contains_south_pole» ≡ r .«contains_south_pole»
+
+pub record NormalsMove (how : List Vect3 → Type 0) (r o : Region) : Type 0 where
+  pub normals : how (o .«cross_products»)
+  pub corners : o .vertices ≡ r .vertices
+  pub flag : o .«contains_south_pole» ≡ r .«contains_south_pole»
+
 -- ---- making room: the entries from i on move up, the last first
 
 module _ {A : Type 0} (d : A) where
@@ -99,18 +111,7 @@ module _ {A : Type 0} (d : A) where
       let at : k ≡ i = omega (arith, past, least) in
       filled d now (take n before) (n + 1) i a (omega (arith, past, least, most)) (omega (arith, e, few)) (subst (λ (x : ℕ). halves d now (n + 1) x ≡ take n before) at (inv .left))
 
--- the corners move while all else stays, then the normals
-pub record RaisingCorners (r : Region) (n i : ℕ) (o : Region) (k : ℕ) : Type 0 where
-  pub corners : Raising nowhere n i (r .vertices) (o .vertices) k
-  pub normals : o .«cross_products» ≡ r .«cross_products»
-  pub flag : o .«contains_south_pole» ≡ r .«contains_south_pole»
-
-pub record RaisingNormals (r : Region) (n i : ℕ) (o : Region) (k : ℕ) : Type 0 where
-  pub normals : Raising nothing n i (r .«cross_products») (o .«cross_products») k
-  pub corners : o .vertices ≡ r .vertices
-  pub flag : o .«contains_south_pole» ≡ r .«contains_south_pole»
-
-pub inserted : {r one o : Region} {i k m : ℕ} → RaisingCorners r (r .count) i one k → k ≤ i → RaisingNormals one (r .count) i o m → m ≤ i → r .count < 64 → (j : ℕ) (p from : Coo3D) (a b : Vect3) → r .count ≤ length (r .vertices)
+pub inserted : {r one o : Region} {i k m : ℕ} → CornersMove (λ l. Raising nowhere (r .count) i (r .vertices) l k) r one → k ≤ i → NormalsMove (λ l. Raising nothing (r .count) i (one .«cross_products») l m) one o → m ≤ i → r .count < 64 → (j : ℕ) (p from : Coo3D) (a b : Vect3) → r .count ≤ length (r .vertices)
     → from ≡ beforeOf nowhere (take (r .count) (r .vertices)) i → j ≡ nextOf (r .count + 1) i → j < r .count + 1 → a ≡ normalOf from p → b ≡ normalOf p (getD (set (o .vertices) i p) j nowhere)
     → used (r .count + 1) (set (o .vertices) i p) (set (set (o .«cross_products») i a) j b) (o .«contains_south_pole») ≡ changed (insert i p) (viewOf r)
 inserted {r} {one} {o} {i} cs past ns also few j p from a b long hf hj below h1 h2 =
@@ -122,50 +123,34 @@ inserted {r} {one} {o} {i} cs past ns also few j p from a b long hf hj below h1 
 
 -- ---- closing a gap: the entries after i move down, the first first
 
-pub record Closing (r : Region) (n i : ℕ) (o : Region) (k : ℕ) : Type 0 where
-  pub below : k + 1 ≤ n
-  pub vertices : length (o .vertices) ≡ 64
-  pub normals : length (o .«cross_products») ≡ 64
-  pub flag : o .«contains_south_pole» ≡ r .«contains_south_pole»
-  pub vertices-left : halves nowhere (o .vertices) n k ≡ del i (take n (r .vertices))
-  pub normals-left : halves nothing (o .«cross_products») n k ≡ del i (take n (r .«cross_products»))
+module _ {A : Type 0} (d : A) where
+  pub record Closing (n i : ℕ) (before now : List A) (k : ℕ) : Type 0 where
+    pub below : k + 1 ≤ n
+    pub size : length now ≡ 64
+    pub left : halves d now n k ≡ del i (take n before)
 
-pub closing-starts : (r : Region) (n i : ℕ) → length (r .vertices) ≡ 64 → length (r .«cross_products») ≡ 64 → i < n → Closing r n i r i
-closing-starts r n i e d h =
-    record {
-      below = omega (arith, h);
-      vertices = e;
-      normals = d;
-      flag = refl;
-      vertices-left = started nowhere (r .vertices) n i (omega (arith, h));
-      normals-left = started nothing (r .«cross_products») n i (omega (arith, h));
-    }
+  pub closing-starts : (l : List A) (n i : ℕ) → length l ≡ 64 → i < n → Closing n i l l i
+  closing-starts l n i e h = record { below = omega (arith, h); size = e; left = started d l n i (omega (arith, h)) }
 
-pub closing-turn : {r : Region} {n i : ℕ} {o : Region} {k : ℕ} → Closing r n i o k → k + 1 < n → n ≤ 64
-    → Closing r n i (record { vertices = set (o .vertices) k (getD (o .vertices) (k + 1) nowhere); «cross_products» = set (o .«cross_products») k (getD (o .«cross_products») (k + 1) nothing); count = o .count; «contains_south_pole» = o .«contains_south_pole» }) (k + 1)
-closing-turn {r} {n} {i} {o} {k} inv h few =
-    let e = inv .vertices in
-    let d = inv .normals in
-    record {
-      below = omega (arith, h);
-      vertices = length-set (o .vertices) k _ ∙ inv .vertices;
-      normals = length-set (o .«cross_products») k _ ∙ inv .normals;
-      flag = inv .flag;
-      vertices-left = moved nowhere (o .vertices) n k h (omega (arith, e, few)) ∙ inv .vertices-left;
-      normals-left = moved nothing (o .«cross_products») n k h (omega (arith, d, few)) ∙ inv .normals-left;
-    }
+  pub closing-turn : {n i : ℕ} {before now : List A} {k : ℕ} → Closing n i before now k → k + 1 < n → n ≤ 64 → Closing n i before (set now k (getD now (k + 1) d)) (k + 1)
+  closing-turn {n} {i} {before} {now} {k} inv h few =
+      let e = inv .size in
+      record { below = omega (arith, h); size = length-set now k _ ∙ e; left = moved d now n k h (omega (arith, e, few)) ∙ inv .left }
 
-pub removed : {r : Region} {i : ℕ} {o : Region} {k : ℕ} → Closing r (r .count) i o k → r .count ≤ k + 1 → r .count ≤ 64 → (j : ℕ) (from : Coo3D) (closing : Vect3) → r .count ≤ length (r .vertices)
+  pub closed : {n i : ℕ} {before now : List A} {k : ℕ} → Closing n i before now k → n ≤ k + 1 → n ≤ 64 → take (n - 1) now ≡ del i (take n before)
+  closed {n} {i} {before} {now} {k} inv past few =
+      let last = inv .below in
+      let e = inv .size in
+      let at : n - 1 ≡ k = omega (arith, past, last) in
+      ap (λ (x : ℕ). take x now) at ∙ sym (finished d now n k (omega (arith, past, last)) (omega (arith, e, few))) ∙ inv .left
+
+pub removed : {r one o : Region} {i k m : ℕ} → CornersMove (λ l. Closing nowhere (r .count) i (r .vertices) l k) r one → r .count ≤ k + 1 → NormalsMove (λ l. Closing nothing (r .count) i (one .«cross_products») l m) one o → r .count ≤ m + 1
+    → r .count ≤ 64 → (j : ℕ) (from : Coo3D) (closing : Vect3) → r .count ≤ length (r .vertices)
     → from ≡ beforeOf nowhere (take (r .count) (r .vertices)) i → j ≡ thereOf (r .count) i → j < r .count - 1 → closing ≡ normalOf from (getD (o .vertices) j nowhere)
     → used (r .count - 1) (o .vertices) (set (o .«cross_products») j closing) (o .«contains_south_pole») ≡ changed (remove i) (viewOf r)
-removed {r} {i} {o} {k} inv passed few j from closing long hf hj below h =
+removed {r} {one} {o} {i} cs past ns also few j from closing long hf hj below h =
     let n = r .count in
-    let last = inv .below in
-    let e = inv .vertices in
-    let d = inv .normals in
-    let at : n - 1 ≡ k = omega (arith, passed, last) in
-    let full : k + 1 ≡ n = omega (arith, passed, last) in
-    let vs : take (n - 1) (o .vertices) ≡ del i (take n (r .vertices)) = ap (λ (x : ℕ). take x (o .vertices)) at ∙ sym (finished nowhere (o .vertices) n k full (omega (arith, e, few))) ∙ inv .vertices-left in
-    let ns : take (n - 1) (o .«cross_products») ≡ del i (take n (r .«cross_products»)) = ap (λ (x : ℕ). take x (o .«cross_products»)) at ∙ sym (finished nothing (o .«cross_products») n k full (omega (arith, d, few))) ∙ inv .normals-left in
-    ap (used (n - 1) (o .vertices) (set (o .«cross_products») j closing)) (inv .flag)
-    ∙ view-removed (r .vertices) (o .vertices) (r .«cross_products») (o .«cross_products») n i j (r .«contains_south_pole») from closing long hf hj below vs h ns
+    let vertices : take (n - 1) (o .vertices) ≡ del i (take n (r .vertices)) = ap (λ (l : List Coo3D). take (n - 1) l) (ns .corners) ∙ closed nowhere (cs .corners) past few in
+    let normals : take (n - 1) (o .«cross_products») ≡ del i (take n (r .«cross_products»)) = closed nothing (ns .normals) also few ∙ ap (λ (l : List Vect3). del i (take n l)) (cs .normals) in
+    ap (used (n - 1) (o .vertices) (set (o .«cross_products») j closing)) (ns .flag ∙ cs .flag)
+    ∙ view-removed (r .vertices) (o .vertices) (r .«cross_products») (o .«cross_products») n i j (r .«contains_south_pole») from closing long hf hj below vertices h normals

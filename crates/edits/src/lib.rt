@@ -7,7 +7,7 @@ ghost use Prim.Native.Nat.{_-_, _≤_, _<_};
 ghost use lib.Dec.{eqb, ltb};
 ghost use Rattle.lists.specs.Cyclic.{prevOf, nextOf, thereOf};
 ghost use Rattle.region.specs.View.{viewOf, withFlag};
-ghost use Rattle.edits.specs.Edits.{Edited, changed};
+ghost use Rattle.edits.specs.Edits.{Edited, checked};
 ghost use Rattle.domain.specs.Checks.{pointAnswer, pointAt};
 ghost use Rattle.refusal.specs.Answer.{answered, refuseIf, andThen, outcomeOf, decisionAnswer};
 ghost use Rattle.refusal.specs.declared.Cause.{Cause};
@@ -46,39 +46,9 @@ fn next_index(n: usize, i: usize) -> usize
 // Where the corner after corner i stands once that one is gone.
 fn index_left(n: usize, i: usize) -> usize
     requires { ⌜ (i < n) × ((1 < n) × (n ≤ 64)) ⌝ }
-    ensures { λ j. ⌜ (j ≡ thereOf n i) × (j < n - 1) ⌝ }
+    ensures { λ j. ⌜ (j ≡ thereOf n i) × ((j < n - 1) × ((i < n) × ((1 < n) × (n ≤ 64)))) ⌝ }
 {
     if i + 1 == n { 0 } else { i }
-}
-
-// Corner i is gone: the normal of the edge that closes the gap is worked out, the others move with their corners.
-fn remove_at(r: Region, i: usize) -> EditAnswer
-    requires { ⌜ (i < r .count) × ((1 < r .count) × (r .count ≤ 64)) ⌝ }
-    ensures { λ a. ⌜ (a .outcome ≡ Outcome.Done) × (viewOf (a .region) ≡ changed (edit.remove i) (viewOf r)) ⌝ }
-{
-    let count = r.count;
-    let h = index_before(count, i);
-    let j = index_left(count, i);
-    let mut region = r;
-    let from = region.vertices[h];
-    let last = count - 1;
-    let mut k = i;
-    while k < last {
-        let l = k + 1;
-        let v = region.vertices[l];
-        let n = region.cross_products[l];
-        region.vertices[k] = v;
-        region.cross_products[k] = n;
-        k = l;
-    }
-    let to = region.vertices[j];
-    let closing = region::edge_normal(from, to);
-    region.cross_products[j] = closing;
-    region.count = last;
-    EditAnswer {
-        region,
-        outcome: Outcome::Done,
-    }
 }
 
 fn refused(r: Region, cause: Cause) -> EditAnswer
@@ -187,20 +157,63 @@ pub fn insert(r: Region, i: usize, corner: Coo3D) -> EditAnswer
     }
 }
 
+// The table's tests of a remove, in their order.
+fn removable(count: usize, i: usize) -> Outcome
+    ensures { λ o. ⌜ (outcomeOf o (edit.remove i) ≡ checked count (edit.remove i)) × (o ≡ Outcome.Done → (i < count) × ((1 < count) × (count ≤ 64))) ⌝ }
+{
+    if count <= 1 {
+        return Outcome::Refused(Cause::NoPoint);
+    }
+    if count > 64 {
+        return Outcome::Refused(Cause::TooManyPoints);
+    }
+    if i >= count {
+        return Outcome::Refused(Cause::NoSuchIndex);
+    }
+    Outcome::Done
+}
+
+// The normal of the edge that closes the gap is worked out, the others move with their corners. Loops and answer are as insert's.
 pub fn remove(r: Region, i: usize) -> EditAnswer
     ensures { λ a. ⌜ Edited (edit.remove i) r a ⌝ }
 {
     let count = r.count;
-    if count <= 1 {
-        return refused(r, Cause::NoPoint);
+    let outcome = removable(count, i);
+    let mut region = r;
+    match outcome {
+        Outcome::Refused(cause) => EditAnswer {
+            region,
+            outcome: Outcome::Refused(cause),
+        },
+        Outcome::Done => {
+            let j = index_left(count, i);
+            let h = index_before(count, i);
+            let from = region.vertices[h];
+            let last = count - 1;
+            let mut k = i;
+            while k < last {
+                let l = k + 1;
+                let v = region.vertices[l];
+                region.vertices[k] = v;
+                k = l;
+            }
+            let mut m = i;
+            while m < last {
+                let l = m + 1;
+                let n = region.cross_products[l];
+                region.cross_products[m] = n;
+                m = l;
+            }
+            let to = region.vertices[j];
+            let closing = region::edge_normal(from, to);
+            region.cross_products[j] = closing;
+            region.count = last;
+            EditAnswer {
+                region,
+                outcome: Outcome::Done,
+            }
+        }
     }
-    if count > 64 {
-        return refused(r, Cause::TooManyPoints);
-    }
-    if i >= count {
-        return refused(r, Cause::NoSuchIndex);
-    }
-    remove_at(r, i)
 }
 
 // The region with its flag as given.

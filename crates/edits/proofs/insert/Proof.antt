@@ -9,19 +9,19 @@ use Rattle.region.proofs.Edges.{nothing}
 use Rattle.region.proofs.Lengths.{unmap}
 use Rattle.edits.specs.Edits.{insert}
 use Rattle.edits.proofs.Checked.{refused-edit, done-edit, refused-by, done-by, insert-asked, insert-inside, asked-refused, asked-done}
-use Rattle.edits.proofs.Moved.{before-at, raising-starts, raising-turn, RaisingCorners, RaisingNormals, inserted}
+use Rattle.edits.proofs.Moved.{before-at, CornersMove, NormalsMove, Raising, raising-starts, raising-turn, inserted}
 use borrow.Author.Needs.{needs}
 use Rattle.edits.proofs.insert.Statement.{statement}
 use Rattle.edits.proofs.insert.Tie as tie
 
 abbrev Inv-loop : tie.InvT-loop
-Inv-loop i count region₀ p h j from k₀ region k = RaisingCorners region₀ count i region k
+Inv-loop i count region₀ p h j from k₀ region k = CornersMove (λ l. Raising nowhere count i (region₀ .vertices) l k) region₀ region
 
 abbrev μ-loop : tie.MeasureT-loop
 μ-loop i count region₀ p h j from k₀ region k = k
 
 abbrev Inv-loop2 : tie.InvT-loop2
-Inv-loop2 i count region₀ p h j from k m₀ region m = RaisingNormals region₀ count i region m
+Inv-loop2 i count region₀ p h j from k m₀ region m = NormalsMove (λ l. Raising nothing count i (region₀ .«cross_products») l m) region₀ region
 
 abbrev μ-loop2 : tie.MeasureT-loop2
 μ-loop2 i count region₀ p h j from k m₀ region m = m
