@@ -172,7 +172,7 @@ pub fn put(corners: &[f64], flag: bool, entries: &[f64]) -> u64 {
     entries.chunks_exact(5).fold(0, |sum, p| {
         let mut changed = given.clone();
         changed[k] = point(p);
-        let sum = mix_polygon(sum, &afresh(&changed, flag), k);
+        let sum = mix_polygon(sum, &afresh(&changed, flag), 0);
         k = next(k, given.len());
         sum
     })
@@ -183,7 +183,7 @@ pub fn insert(corners: &[f64], flag: bool, entries: &[f64]) -> u64 {
     entries.chunks_exact(5).fold(0, |sum, p| {
         let mut longer = given.clone();
         longer.insert(k, point(p));
-        let sum = mix_polygon(sum, &afresh(&longer, flag), k);
+        let sum = mix_polygon(sum, &afresh(&longer, flag), 0);
         k = next(k, longer.len());
         sum
     })
@@ -194,7 +194,7 @@ pub fn remove(corners: &[f64], flag: bool, times: usize) -> u64 {
     (0..times).fold(0, |sum, _| {
         let mut shorter = given.clone();
         shorter.remove(k);
-        let sum = mix_polygon(sum, &afresh(&shorter, flag), k);
+        let sum = mix_polygon(sum, &afresh(&shorter, flag), 0);
         k = next(k, shorter.len());
         sum
     })
@@ -214,12 +214,9 @@ pub fn turn(polygon: &Polygon, times: usize) -> u64 {
 }
 
 pub fn hold(polygon: &Polygon, entries: &[f64]) -> u64 {
-    let mut k = 0;
     entries.chunks_exact(5).fold(0, |sum, p| {
         let flag = polygon.contains_south_pole == polygon.contains(&point(p));
-        let sum = mix_flagged(sum, polygon, flag, k);
-        k = next(k, polygon.vertices.len());
-        sum
+        mix_flagged(sum, polygon, flag, 0)
     })
 }
 

@@ -405,7 +405,8 @@ pub extern "C" fn bench_cone(corners: &[f64], points: &[f64]) -> u64 {
     sum
 }
 
-// Every edit is of the same region.
+// Every edit is of the same region. Of what it answers a fixed entry is read, as of what was built; of turn's and rule's answers one by its index,
+// for which the caller copies the region: their own copy would be left out otherwise, since it is never looked at.
 #[no_mangle]
 pub extern "C" fn bench_put(corners: &[f64], normals: &[f64], flag: u64, points: &[f64]) -> u64 {
     let region = region_of(corners, normals, flag);
@@ -420,7 +421,7 @@ pub extern "C" fn bench_put(corners: &[f64], normals: &[f64], flag: u64, points:
         let answer = edits::put(region, k, p);
         let outcome = answer.outcome;
         let edited = answer.region;
-        let v = edited.cross_products[k];
+        let v = edited.cross_products[0];
         sum = mix_vector(
             mix(mix_outcome(sum, outcome), edited.contains_south_pole as u64),
             v,
@@ -444,7 +445,7 @@ pub extern "C" fn bench_insert(corners: &[f64], normals: &[f64], flag: u64, poin
         let answer = edits::insert(region, k, p);
         let outcome = answer.outcome;
         let edited = answer.region;
-        let v = edited.cross_products[k];
+        let v = edited.cross_products[0];
         sum = mix_vector(
             mix(mix_outcome(sum, outcome), edited.contains_south_pole as u64),
             v,
@@ -465,7 +466,7 @@ pub extern "C" fn bench_remove(corners: &[f64], normals: &[f64], flag: u64, n: u
         let answer = edits::remove(region, k);
         let outcome = answer.outcome;
         let edited = answer.region;
-        let v = edited.cross_products[k];
+        let v = edited.cross_products[0];
         sum = mix_vector(
             mix(mix_outcome(sum, outcome), edited.contains_south_pole as u64),
             v,
@@ -499,7 +500,6 @@ pub extern "C" fn bench_turn(corners: &[f64], normals: &[f64], flag: u64, n: usi
 #[no_mangle]
 pub extern "C" fn bench_hold(corners: &[f64], normals: &[f64], flag: u64, points: &[f64]) -> u64 {
     let region = region_of(corners, normals, flag);
-    let mut k: usize = 0;
     let mut sum: u64 = 0;
     let n = points.len() / 5;
     let mut i: usize = 0;
@@ -510,12 +510,11 @@ pub extern "C" fn bench_hold(corners: &[f64], normals: &[f64], flag: u64, points
         let answer = edits::hold(region, p);
         let outcome = answer.outcome;
         let edited = answer.region;
-        let v = edited.cross_products[k];
+        let v = edited.cross_products[0];
         sum = mix_vector(
             mix(mix_outcome(sum, outcome), edited.contains_south_pole as u64),
             v,
         );
-        k = next(k, edited.count);
     }
     sum
 }
@@ -528,7 +527,6 @@ pub extern "C" fn bench_hold_lent(
     points: &[f64],
 ) -> u64 {
     let region = region_of(corners, normals, flag);
-    let mut k: usize = 0;
     let mut sum: u64 = 0;
     let n = points.len() / 5;
     let mut i: usize = 0;
@@ -539,12 +537,11 @@ pub extern "C" fn bench_hold_lent(
         let answer = lending::hold_on_lent(region, p);
         let outcome = answer.outcome;
         let edited = answer.region;
-        let v = edited.cross_products[k];
+        let v = edited.cross_products[0];
         sum = mix_vector(
             mix(mix_outcome(sum, outcome), edited.contains_south_pole as u64),
             v,
         );
-        k = next(k, edited.count);
     }
     sum
 }
