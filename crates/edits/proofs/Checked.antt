@@ -4,13 +4,12 @@ use native.Mathlib.Omega.{arith}
 use mathlib.Core.Path.{_≡_, refl, sym, ap, _∙_}
 use mathlib.Core.Logic.{⊎-elim}
 use mathlib.Core.Bool.{Bool, true, false, not, cond}
-use mathlib.Core.List.{List, [], _∷_}
+use mathlib.Core.List.{List, []}
 use lib.Dec.{eqb, ltb, leb}
 use borrow.Author.Tests.{ltb-true, ltb-false, leb-true, leb-false, eqb-false, not-false, eq-eqb, ne-eqb, le-ltb, lt-ltb}
 use Rattle.coo3d.specs.declared.Coo3D.{Coo3D}
 use Rattle.domain.specs.Checks.{pointAt, withCount}
 use Rattle.domain.proofs.Counts.{count-none, count-many, count-few}
-use Rattle.domain.proofs.Points.{point-refused}
 use Rattle.lists.proofs.Cyclic.{same-or-not}
 use Rattle.refusal.specs.Answer.{Answer, answered, refused, refusedFor, refuseIf, andThen, outcomeOf, decisionAnswer}
 use Rattle.refusal.specs.declared.Cause.{Cause}
@@ -28,12 +27,16 @@ use Rattle.edits.specs.Edits.{Edit, put, insert, remove, turn, hold, rul
 
 -- ---- answers
 
+-- what is done refuses for no cause
+pub not-refused : {A : Type 0} (cause : Cause) → Done ≡ Refused cause → A
+not-refused cause q = never {A = Bool} (ap (λ x. outcomeOf x true) (sym q))
+
 module _ (e : Edit) (r : Region) (a : EditAnswer) where
   pub refused-edit : (cause : Cause) → a ≡ record { region = r; outcome = Refused cause } → editOf e (viewOf r) ≡ refusedFor cause → Edited e r a
   refused-edit cause is t = record { answer = rw (is, t); kept = λ k o. rw is }
 
   pub done-edit : a .outcome ≡ Done → editOf e (viewOf r) ≡ answered (viewOf (a .region)) → Edited e r a
-  done-edit o t = record { answer = rw (o, t); kept = λ cause q. never {A = View} (ap (λ x. outcomeOf x (viewOf r)) (sym q ∙ o)) }
+  done-edit o t = record { answer = rw (o, t); kept = λ cause q. not-refused cause (sym o ∙ q) }
 
 module _ (e : Edit) (v : View) where
   pub refused-by : (number : ℕ) (values : List ℕ) → checked (v .count) e ≡ refused number values → editOf e v ≡ refused number values
@@ -195,10 +198,6 @@ module _ (v : View) where
       same false = refl
 
 -- ---- a flag by a decision
-
--- what is done refuses for no cause
-pub not-refused : {A : Type 0} (cause : Cause) → Done ≡ Refused cause → A
-not-refused cause q = never {A = Bool} (ap (λ x. outcomeOf x true) (sym q))
 
 pub flag-set : (d : Decision) (in-it out-of-it old b : Bool) → decisionAnswer d ≡ answered b
     → (answered (cond b in-it out-of-it) ≡ andThen (decisionAnswer d) (λ k. answered (cond k in-it out-of-it))) × ((cause : Cause) → Done ≡ Refused cause → cond b in-it out-of-it ≡ old)
