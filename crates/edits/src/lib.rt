@@ -35,7 +35,7 @@ fn index_before(n: usize, i: usize) -> usize
     if i == 0 { n - 1 } else { i - 1 }
 }
 
-// The index after i, of n.
+// The index after i, of n. What it was asked with is said again: a caller's arm knows it by its check alone.
 fn next_index(n: usize, i: usize) -> usize
     requires { ⌜ (i < n) × (n ≤ 64) ⌝ }
     ensures { λ j. ⌜ (j ≡ nextOf n i) × ((j < n) × ((i < n) × (n ≤ 64))) ⌝ }
@@ -43,7 +43,7 @@ fn next_index(n: usize, i: usize) -> usize
     if i + 1 == n { 0 } else { i + 1 }
 }
 
-// Where the corner after corner i stands once that one is gone.
+// Where the corner after corner i stands once that one is gone; the rest as above.
 fn index_left(n: usize, i: usize) -> usize
     requires { ⌜ (i < n) × ((1 < n) × (n ≤ 64)) ⌝ }
     ensures { λ j. ⌜ (j ≡ thereOf n i) × ((j < n - 1) × ((i < n) × ((1 < n) × (n ≤ 64)))) ⌝ }
@@ -76,7 +76,8 @@ fn corner_for(count: usize, most: usize, there: bool, corner: Coo3D) -> PointChe
     domain::check_point(corner, 0)
 }
 
-// The two normals that touch the corner are worked out, at count 1 the one edge's. Each answer is made of the same copy, so that it is the only one.
+// The two normals that touch the corner are worked out, at count 1 the one edge's. Both answers are made of one
+// copy, so that there is no other.
 pub fn put(r: Region, i: usize, corner: Coo3D) -> EditAnswer
     ensures { λ a. ⌜ Edited (edit.put i corner) r a ⌝ }
 {
