@@ -7,7 +7,10 @@ use borrow.Author.Tests.{ltb-true, eqb-true, le-ltb}
 use lib.Dec.{ltb, eqb}
 use lib.Ieee.{Float, nan, inf, fin, up, down, lt, eq, le}
 use Rattle.coo3d.specs.declared.Coo3D.{Coo3D}
-use Rattle.parallels.specs.Parallels.{southOf, northOf, spansLat}
+use Rattle.crossings.specs.declared.Crossing.{Crossing}
+use Rattle.crossings.specs.declared.Crossing.the-variants.{None}
+use Rattle.region.specs.Edges.{Edge}
+use Rattle.parallels.specs.Parallels.{southOf, northOf, spansLat, parallelCrossing}
 
 -- ---- what is at most y is not above it
 
@@ -64,3 +67,7 @@ alike true true h = refl
 alike true false h = h
 alike false true h = sym h
 alike false false h = refl
+
+pub not-crossed : (lat sin cos : Float) (e : Edge) → spansLat (e .from) (e .to) lat ≡ false → None ≡ parallelCrossing lat sin cos e
+unfolding parallelCrossing
+not-crossed lat sin cos e h = rw h refl

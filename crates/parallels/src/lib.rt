@@ -173,9 +173,11 @@ pub fn intersect_parallel(r: Region, lat: f64, lat_sin: f64, lat_cos: f64) -> Fi
     if !is_parallel(lat, lat_sin, lat_cos) {
         return FirstAnswer::Refused(Cause::NoSuchParallel);
     }
+    // The lists alone: read in the region, they would be copied with it to where a copy is slow.
     let vertices = r.vertices;
     let normals = r.cross_products;
     let mut before = count - 1;
+    // An edge that fits has its ends on both sides of the parallel.
     let mut from_below = vertices[before].lat <= lat;
     let mut i: usize = 0;
     while i < count {
@@ -220,32 +222,39 @@ pub fn intersect_parallel_all(r: Region, lat: f64, lat_sin: f64, lat_cos: f64) -
     if !is_parallel(lat, lat_sin, lat_cos) {
         return crossings::refused(Cause::NoSuchParallel);
     }
+    let vertices = r.vertices;
+    let normals = r.cross_products;
     let mut points = crossings::no_points();
     let mut len: usize = 0;
-    let last = count - 1;
-    let mut from = r.vertices[last];
+    let mut before = count - 1;
+    let mut from_below = vertices[before].lat <= lat;
     let mut i: usize = 0;
     while i < count {
-        let to = r.vertices[i];
-        let n = r.cross_products[i];
-        let Tested::Crossing(c) = crossings::test_finite(parallel_crossing(
-            lat,
-            lat_sin,
-            lat_cos,
-            from,
-            to,
-            n,
-        )) else {
-            return crossings::refused(Cause::NotFinite);
-        };
-        match c {
-            Crossing::At(p) => {
-                points[len] = p;
-                len += 1;
+        let to_below = vertices[i].lat <= lat;
+        if from_below != to_below {
+            let from = vertices[before];
+            let to = vertices[i];
+            let n = normals[i];
+            let Tested::Crossing(c) = crossings::test_finite(parallel_crossing(
+                lat,
+                lat_sin,
+                lat_cos,
+                from,
+                to,
+                n,
+            )) else {
+                return crossings::refused(Cause::NotFinite);
+            };
+            match c {
+                Crossing::At(p) => {
+                    points[len] = p;
+                    len += 1;
+                }
+                Crossing::None => {}
             }
-            Crossing::None => {}
+            from_below = to_below;
         }
-        from = to;
+        before = i;
         i += 1;
     }
     AllAnswer {
