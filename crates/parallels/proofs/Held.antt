@@ -11,6 +11,9 @@ use Rattle.region.specs.View.{viewOf, edgesOf}
 abbrev pub held : List Coo3D → List Vect3 → ℕ → Region
 held vertices normals count = record { vertices = vertices; «cross_products» = normals; count = count; «contains_south_pole» = false }
 
-pub held-edges : (r : Region) → edgesOf (viewOf (held (r .vertices) (r .«cross_products») (r .count))) ≡ edgesOf (viewOf r)
+abbrev pub heldOf : Region → Region
+heldOf r = held (r .vertices) (r .«cross_products») (r .count)
+
+pub held-edges : (r : Region) → edgesOf (viewOf (heldOf r)) ≡ edgesOf (viewOf r)
 unfolding edgesOf
 held-edges r = refl

@@ -1,4 +1,5 @@
 pub mod Given
 pub mod Held
 pub mod Sides
+pub mod Ends
 pub mod First

@@ -7,7 +7,6 @@ use borrow.Author.Tests.{ltb-true, eqb-true, le-ltb}
 use lib.Dec.{ltb, eqb}
 use lib.Ieee.{Float, nan, inf, fin, up, down, lt, eq, le}
 use Rattle.coo3d.specs.declared.Coo3D.{Coo3D}
-use Rattle.crossings.specs.declared.Crossing.{Crossing}
 use Rattle.crossings.specs.declared.Crossing.the-variants.{None}
 use Rattle.region.specs.Edges.{Edge}
 use Rattle.parallels.specs.Parallels.{southOf, northOf, spansLat, parallelCrossing}

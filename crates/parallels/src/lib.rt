@@ -133,11 +133,12 @@ fn case_b(pa: Coo3D, pb: Coo3D, n: Vect3, z: f64, lat_cos: f64) -> Crossing
 fn point_of(from: Coo3D, to: Coo3D, n: Vect3, lat_sin: f64, lat_cos: f64) -> Crossing
     ensures { λ r. ⌜ r ≡ pointOf (record { from = from; to = to; normal = n }) «lat_sin» «lat_cos» ⌝ }
 {
-    let pa = south_of(from, to);
-    let pb = north_of(from, to);
+    // Case A does not ask which end is the southern one.
     if n.x != 0.0 {
-        case_a(pa, pb, n, lat_sin, lat_cos)
+        case_a(from, to, n, lat_sin, lat_cos)
     } else {
+        let pa = south_of(from, to);
+        let pb = north_of(from, to);
         case_b(pa, pb, n, lat_sin, lat_cos)
     }
 }

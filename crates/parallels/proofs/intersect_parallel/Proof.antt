@@ -1,6 +1,6 @@
 -- `parallels::intersect_parallel` meets its contract. Assumes nothing.
 -- The loop's invariant: the edges that are left decide as all of them do. The measure is how many are left.
-use Prim.Native.Nat.{ℕ, _-_, _≤_, _<_}
+use Prim.Native.Nat.{_-_, _≤_, _<_}
 use native.Mathlib.Omega.{arith}
 use mathlib.Core.Path.{_≡_, refl, sym, ap, _∙_}
 use mathlib.Core.Logic.{⊎-elim}
@@ -12,13 +12,12 @@ use Rattle.crossings.specs.declared.Tested.the-variants as tested
 use Rattle.crossings.specs.Crossings.{testedAnswer, listed, firstOf}
 use Rattle.domain.proofs.Counts.{count-none, count-many}
 use Rattle.refusal.specs.Answer.{answered}
-use Rattle.region.specs.declared.Region.{Region}
 use Rattle.region.specs.View.{viewOf, edgesOf, nowhere}
 use Rattle.region.proofs.Edges.{edgesLeft, start}
 use Rattle.region.proofs.Lengths.{unmap}
 use Rattle.parallels.proofs.Given.{parallel-refused, parallel-passed}
 use Rattle.parallels.proofs.First.{fit-not, fit-here, fit-nowhere, only-passed, only-refused}
-use Rattle.parallels.proofs.Held.{held, held-edges}
+use Rattle.parallels.proofs.Held.{held, heldOf, held-edges}
 use Rattle.parallels.proofs.Sides.{alike, one-side}
 use Rattle.parallels.specs.Queries.{firstFit, parallelFirstOf}
 use Rattle.parallels.proofs.intersect_parallel.Statement.{statement}
@@ -34,10 +33,6 @@ Inv-loop lat lat-sin lat-cos count vertices normals before₀ from-below₀ i₀
 
 abbrev μ-loop : tie.MeasureT-loop
 μ-loop lat lat-sin lat-cos count vertices normals before₀ from-below₀ i₀ before from-below i = count - i
-
--- the region that the loop has
-abbrev region : tie.Start Inv-loop μ-loop → Region
-region s = held (s .args .r .vertices) (s .args .r .«cross_products») (s .args .r .count)
 
 long : (c : tie.Start Inv-loop μ-loop) → c .args .r .count ≤ 64 → c .args .r .count ≤ length (c .args .r .vertices)
 long c h = let e : length (c .args .r .vertices) ≡ 64 = search unmap in omega arith
@@ -74,7 +69,7 @@ element-copy-out-from-below c = search needs
 -- the edges that are left decide, once the tests are passed
 answer : (c : tie.At-loop Inv-loop μ-loop)
     → let s = c .before .before .before .before .before .before .before in
-    firstOf (firstFit (s .args .lat) (s .args .lat-sin) (s .args .lat-cos) (edgesLeft (region s) (getD (s .args .r .vertices) (c .loop .before) nowhere) (c .loop .i)))
+    firstOf (firstFit (s .args .lat) (s .args .lat-sin) (s .args .lat-cos) (edgesLeft (heldOf (s .args .r)) (getD (s .args .r .vertices) (c .loop .before) nowhere) (c .loop .i)))
     ≡ parallelFirstOf (viewOf (s .args .r)) (s .args .lat) (s .args .lat-sin) (s .args .lat-cos)
 unfolding parallelFirstOf
 answer c =
@@ -85,7 +80,7 @@ answer c =
 loop-holds : tie.Need-loop-holds Inv-loop μ-loop
 loop-holds c =
     let s = c .before .before .before .before .before .before in
-    (search needs, search needs, refl, ap (firstFit _ _ _) (sym (start (region s) (search needs) (long s (search needs)))))
+    (search needs, search needs, refl, ap (firstFit _ _ _) (sym (start (heldOf (s .args .r)) (search needs) (long s (search needs)))))
 
 mul-to-below : tie.Need-mul-to-below Inv-loop μ-loop
 mul-to-below c = search needs
@@ -134,7 +129,7 @@ fit c =
     let s = c .before .before .before .before .before .before .before .before .before .before .before .before .before .before .before in
     let x = c .before .before .before .before .before .before .before .before in
     let spans = sym (c .before .before .before .spans-lat .ensures) ∙ c .before .before .if5 .taken in
-    ap firstOf (fit-here (region s) (s .args .lat) (s .args .lat-sin) (s .args .lat-cos) (getD (s .args .r .vertices) (x .loop .before) nowhere) (x .loop .i) (long s (search needs)) (long' s (search needs)) (search needs) (c .point-of .result) spans (c .point-of .ensures))
+    ap firstOf (fit-here (heldOf (s .args .r)) (s .args .lat) (s .args .lat-sin) (s .args .lat-cos) (getD (s .args .r .vertices) (x .loop .before) nowhere) (x .loop .i) (long s (search needs)) (long' s (search needs)) (search needs) (c .point-of .result) spans (c .point-of .ensures))
     ∙ answer x
 
 returns-4 : tie.Need-returns-4 Inv-loop μ-loop
@@ -171,10 +166,10 @@ loop-again c =
     let s = c .before .before .before .before .before .before .before .before .before in
     let l = c .before .before .loop in
     ⊎-elim
-    (λ w. (search needs, search needs, w .5, sym (fit-not (region s) _ _ _ (getD (s .args .r .vertices) (l .before) nowhere) (l .i) (long s (search needs)) (long' s (search needs)) (search needs) (sym (w .3 .ensures) ∙ w .4 .left)) ∙ l .inv .3))
+    (λ w. (search needs, search needs, w .5, sym (fit-not (heldOf (s .args .r)) _ _ _ (getD (s .args .r .vertices) (l .before) nowhere) (l .i) (long s (search needs)) (long' s (search needs)) (search needs) (sym (w .3 .ensures) ∙ w .4 .left)) ∙ l .inv .3))
     (λ w.
     let same = alike _ _ (w .0 .left) in
-    (search needs, search needs, w .1 ∙ same, sym (fit-not (region s) _ _ _ (getD (s .args .r .vertices) (l .before) nowhere) (l .i) (long s (search needs)) (long' s (search needs)) (search needs) (one-side _ _ _ (sym (l .inv .2) ∙ same))) ∙ l .inv .3))
+    (search needs, search needs, w .1 ∙ same, sym (fit-not (heldOf (s .args .r)) _ _ _ (getD (s .args .r .vertices) (l .before) nowhere) (l .i) (long s (search needs)) (long' s (search needs)) (search needs) (one-side _ _ _ (sym (l .inv .2) ∙ same))) ∙ l .inv .3))
     (c .if4 .came)
 
 returns-7 : tie.Need-returns-7 Inv-loop μ-loop
@@ -182,7 +177,7 @@ unfolding firstOf
 returns-7 c =
     let s = c .before .before .before .before .before .before .before .before in
     let l = c .before .loop in
-    ap firstOf (sym (fit-nowhere (region s) (s .args .lat) (s .args .lat-sin) (s .args .lat-cos) (getD (s .args .r .vertices) (l .before) nowhere) (l .i) (long s (search needs)) (c .loop-test .left))) ∙ answer (c .before)
+    ap firstOf (sym (fit-nowhere (heldOf (s .args .r)) (s .args .lat) (s .args .lat-sin) (s .args .lat-cos) (getD (s .args .r .vertices) (l .before) nowhere) (l .i) (long s (search needs)) (c .loop-test .left))) ∙ answer (c .before)
 
 pub intersect-parallel-spec : {M : Type 1} → statement M
 intersect-parallel-spec =

@@ -15,13 +15,12 @@ use Rattle.crossings.specs.declared.Tested.the-variants as tested
 use Rattle.crossings.specs.Crossings.{crossingsOf, testedAnswer, testedOf, allOf, Lists}
 use Rattle.crossings.proofs.Gather.{Turn, turned, Gathered, gathered-start, gathered-none, gathered-at, gathered-refused, gathered-done}
 use Rattle.domain.proofs.Counts.{count-none, count-many}
-use Rattle.region.specs.declared.Region.{Region}
 use Rattle.region.specs.Edges.{Edge}
 use Rattle.region.specs.View.{viewOf, nowhere, edgesOf}
 use Rattle.region.proofs.Edges.{nothing, edgesLeft, start, turn, done, edges-length}
 use Rattle.region.proofs.Lengths.{unmap}
 use Rattle.parallels.proofs.Given.{parallel-refused, parallel-passed}
-use Rattle.parallels.proofs.Held.{held, held-edges}
+use Rattle.parallels.proofs.Held.{held, heldOf, held-edges}
 use Rattle.parallels.proofs.Sides.{alike, one-side, not-crossed}
 use Rattle.parallels.specs.Parallels.{parallelCrossing}
 use Rattle.parallels.specs.Queries.{parallelAllOf}
@@ -37,10 +36,6 @@ Inv-loop lat lat-sin lat-cos count vertices normals points₀ len₀ before₀ f
 
 abbrev μ-loop : tie.MeasureT-loop
 μ-loop lat lat-sin lat-cos count vertices normals points₀ len₀ before₀ from-below₀ i₀ points len before from-below i = count - i
-
--- the region that the loop has
-abbrev region : tie.Start Inv-loop μ-loop → Region
-region s = held (s .args .r .vertices) (s .args .r .«cross_products») (s .args .r .count)
 
 long : (c : tie.Start Inv-loop μ-loop) → c .args .r .count ≤ 64 → c .args .r .count ≤ length (c .args .r .vertices)
 long c h = let e : length (c .args .r .vertices) ≡ 64 = search unmap in omega arith
@@ -94,7 +89,7 @@ module _ (c : tie.At-loop Inv-loop μ-loop) where
   hit = parallelCrossing (entry .args .lat) (entry .args .lat-sin) (entry .args .lat-cos)
 
   -- the answer, once the tests are passed
-  whole : allOf (crossingsOf hit (edgesOf (viewOf (region entry)))) ≡ parallelAllOf (viewOf (entry .args .r)) (entry .args .lat) (entry .args .lat-sin) (entry .args .lat-cos)
+  whole : allOf (crossingsOf hit (edgesOf (viewOf (heldOf (entry .args .r))))) ≡ parallelAllOf (viewOf (entry .args .r)) (entry .args .lat) (entry .args .lat-sin) (entry .args .lat-cos)
   unfolding parallelAllOf
   whole =
       ap (λ (es : List Edge). allOf (crossingsOf hit es)) (held-edges (entry .args .r))
@@ -106,13 +101,13 @@ module _ (c : tie.At-loop Inv-loop μ-loop) where
     edge = record { from = getD (entry .args .r .vertices) (c .loop .before) nowhere; to = getD (entry .args .r .vertices) (c .loop .i) nowhere; normal = getD (entry .args .r .«cross_products») (c .loop .i) nothing }
 
     here : {crossing : Crossing} {t : Tested} → crossing ≡ hit edge → testedAnswer t ≡ testedOf crossing
-        → Turn hit (edgesLeft (region entry) (edge .from) (c .loop .i)) (edgesLeft (region entry) (edge .to) (c .loop .i + 1)) t
-    here crossed told = turned (turn (region entry) _ _ (long entry (search needs)) (long' entry (search needs)) below) crossed told
+        → Turn hit (edgesLeft (heldOf (entry .args .r)) (edge .from) (c .loop .i)) (edgesLeft (heldOf (entry .args .r)) (edge .to) (c .loop .i + 1)) t
+    here crossed told = turned (turn (heldOf (entry .args .r)) _ _ (long entry (search needs)) (long' entry (search needs)) below) crossed told
 
 loop-holds : tie.Need-loop-holds Inv-loop μ-loop
 loop-holds c =
     let s = c .before .before .before .before .before .before .before in
-    (search needs, search needs, refl, gathered-start (omega (arith, edges-length (region s))) (c .no-points .ensures) (start (region s) (search needs) (long s (search needs))))
+    (search needs, search needs, refl, gathered-start (omega (arith, edges-length (heldOf (s .args .r)))) (c .no-points .ensures) (start (heldOf (s .args .r)) (search needs) (long s (search needs))))
 
 mul-to-below : tie.Need-mul-to-below Inv-loop μ-loop
 mul-to-below c = search needs
@@ -195,7 +190,7 @@ loop-again c =
 returns-5 : tie.Need-returns-5 Inv-loop μ-loop
 returns-5 c =
     let x = c .before in
-    gathered-done (x .loop .inv .3) _ (whole x) (done (region (entry x)) _ _ (long (entry x) (search needs)) (c .loop-test .left))
+    gathered-done (x .loop .inv .3) _ (whole x) (done (heldOf (entry x .args .r)) _ _ (long (entry x) (search needs)) (c .loop-test .left))
 
 pub intersect-parallel-all-spec : {M : Type 1} → statement M
 intersect-parallel-all-spec =
