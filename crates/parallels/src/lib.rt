@@ -174,7 +174,7 @@ pub fn intersect_parallel(r: Region, lat: f64, lat_sin: f64, lat_cos: f64) -> Fi
     if !is_parallel(lat, lat_sin, lat_cos) {
         return FirstAnswer::Refused(Cause::NoSuchParallel);
     }
-    // The lists alone: read in the region, they would be copied with it to where a copy is slow.
+    // Taken out of the region: an index into it would have all of it copied, to the place beside it, where a copy is slow.
     let vertices = r.vertices;
     let normals = r.cross_products;
     let mut before = count - 1;

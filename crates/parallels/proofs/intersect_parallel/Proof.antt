@@ -1,8 +1,9 @@
 -- `parallels::intersect_parallel` meets its contract. Assumes nothing.
 -- The loop's invariant: the edges that are left decide as all of them do. The measure is how many are left.
-use Prim.Native.Nat.{_-_, _≤_, _<_}
+use Prim.Native.Nat.{_+_, _-_, _≤_, _<_}
 use native.Mathlib.Omega.{arith}
 use mathlib.Core.Path.{_≡_, refl, sym, ap, _∙_}
+use mathlib.Core.Bool.{false}
 use mathlib.Core.Logic.{⊎-elim}
 use borrow.Author.Needs.{needs}
 use lib.Ieee.{le}
@@ -19,6 +20,7 @@ use Rattle.parallels.proofs.Given.{parallel-refused, parallel-passed}
 use Rattle.parallels.proofs.First.{fit-not, fit-here, fit-nowhere, only-passed, only-refused}
 use Rattle.parallels.proofs.Held.{held, heldOf, held-edges}
 use Rattle.parallels.proofs.Sides.{alike, one-side}
+use Rattle.parallels.specs.Parallels.{spansLat}
 use Rattle.parallels.specs.Queries.{firstFit, parallelFirstOf}
 use Rattle.parallels.proofs.intersect_parallel.Statement.{statement}
 use Rattle.parallels.proofs.intersect_parallel.Tie as tie
@@ -161,15 +163,26 @@ add-i c = search needs
 loop-less : tie.Need-loop-less Inv-loop μ-loop
 loop-less c = search needs
 
+-- an edge that does not fit is passed
+pass : (c : tie.At-loop Inv-loop μ-loop)
+    → let s = c .before .before .before .before .before .before .before in
+    let to = getD (s .args .r .vertices) (c .loop .i) nowhere in
+    c .loop .i < s .args .r .count
+    → spansLat (getD (s .args .r .vertices) (c .loop .before) nowhere) to (s .args .lat) ≡ false
+    → firstFit (s .args .lat) (s .args .lat-sin) (s .args .lat-cos) (edgesLeft (heldOf (s .args .r)) to (c .loop .i + 1))
+    ≡ firstFit (s .args .lat) (s .args .lat-sin) (s .args .lat-cos) (edgesOf (viewOf (heldOf (s .args .r))))
+pass c below h =
+    let s = c .before .before .before .before .before .before .before in
+    sym (fit-not (heldOf (s .args .r)) _ _ _ _ _ (long s (search needs)) (long' s (search needs)) below h) ∙ c .loop .inv .3
+
 loop-again : tie.Need-loop-again Inv-loop μ-loop
 loop-again c =
-    let s = c .before .before .before .before .before .before .before .before .before in
-    let l = c .before .before .loop in
+    let x = c .before .before in
     ⊎-elim
-    (λ w. (search needs, search needs, w .5, sym (fit-not (heldOf (s .args .r)) _ _ _ (getD (s .args .r .vertices) (l .before) nowhere) (l .i) (long s (search needs)) (long' s (search needs)) (search needs) (sym (w .3 .ensures) ∙ w .4 .left)) ∙ l .inv .3))
+    (λ w. (search needs, search needs, w .5, pass x (search needs) (sym (w .3 .ensures) ∙ w .4 .left)))
     (λ w.
     let same = alike _ _ (w .0 .left) in
-    (search needs, search needs, w .1 ∙ same, sym (fit-not (heldOf (s .args .r)) _ _ _ (getD (s .args .r .vertices) (l .before) nowhere) (l .i) (long s (search needs)) (long' s (search needs)) (search needs) (one-side _ _ _ (sym (l .inv .2) ∙ same))) ∙ l .inv .3))
+    (search needs, search needs, w .1 ∙ same, pass x (search needs) (one-side _ _ _ (sym (x .loop .inv .2) ∙ same))))
     (c .if4 .came)
 
 returns-7 : tie.Need-returns-7 Inv-loop μ-loop
