@@ -88,8 +88,11 @@ fn second_degree(pa: Coo3D, pb: Coo3D, n: Vect3, z: f64, two_a: f64, b: f64, del
     if delta > 0.0 {
         let delta_root_sq = root::sqrt(delta);
         let p1 = point_at_y(n, (-b - delta_root_sq) / two_a, z);
-        let p2 = point_at_y(n, (-b + delta_root_sq) / two_a, z);
-        either(p1, p2, pa, pb)
+        if is_between(p1, pa, pb) {
+            Crossing::At(p1)
+        } else {
+            Crossing::At(point_at_y(n, (-b + delta_root_sq) / two_a, z))
+        }
     } else if delta == 0.0 {
         Crossing::At(point_at_y(n, -b / two_a, z))
     } else {
