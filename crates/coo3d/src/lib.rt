@@ -55,10 +55,12 @@ pub fn squared_norm_of(x: f64, y: f64, z: f64) -> f64
     x * x + y * y + z * z
 }
 
+// The larger of the difference and its opposite is its magnitude, up to the sign of a zero, and takes no branch.
 pub fn is_unit_from_norm(norm: f64) -> bool
     ensures { λ r. ⌜ r ≡ isUnit norm ⌝ }
 {
-    float::abs(norm - 1.0) <= EPSILON
+    let step = norm - 1.0;
+    float::max(step, -step) <= EPSILON
 }
 
 impl Coo3D {

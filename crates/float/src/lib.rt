@@ -9,16 +9,11 @@ pub const HALF_PI: f64 = 0.5 * PI;
 
 pub const TWO_PI: f64 = 2.0 * PI;
 
+// With no branch on the sign, which is as good as drawn where the magnitude of a difference is asked for.
 pub fn abs(x: f64) -> f64
     ensures { λ r. ⌜ r ≡ absOf x ⌝ }
 {
-    if x < 0.0 {
-        -x
-    } else if x == 0.0 {
-        0.0
-    } else {
-        x
-    }
+    if x == 0.0 { 0.0 } else { max(x, -x) }
 }
 
 // The difference is 0 for a finite x, and a NaN for any other.

@@ -2,6 +2,7 @@
 ghost use mathlib.Core.Path.{_≡_};
 ghost use mathlib.Core.Bool.{cond};
 ghost use lib.Ieee.{lt};
+ghost use Rattle.coo3d.specs.Vectors.{dotOf};
 ghost use Rattle.refusal.specs.Answer.{decisionAnswer};
 ghost use Rattle.region.specs.View.{viewOf};
 ghost use Rattle.crossings.specs.Crossings.{firstAnswer, Lists};
@@ -72,8 +73,7 @@ fn normalized_intersect_point(a: Coo3D, b: Coo3D, ua: f64, ub: f64) -> UnitVect3
     v.normalized()
 }
 
-// The point, where it lies on the edge between pa and pb or opposite to it. The larger of a product and its opposite is the magnitude, up to the
-// sign of a zero, which no comparison sees, and takes no branch.
+// The point, where it lies on the edge between pa and pb or opposite to it.
 fn in_edge(i: UnitVect3, pa: Coo3D, pb: Coo3D) -> Crossing
     ensures { λ r. ⌜ r ≡ inEdge i pa pb ⌝ }
 {
@@ -81,9 +81,9 @@ fn in_edge(i: UnitVect3, pa: Coo3D, pb: Coo3D) -> Crossing
     let vb = pb.to_vect3();
     let v = i.to_vect3();
     let papb = coo3d::dot_product(va, vb);
-    let da = coo3d::dot_product(va, v);
-    let db = coo3d::dot_product(vb, v);
-    if (float::max(da, -da) > papb) & (float::max(db, -db) > papb) {
+    if (float::abs(coo3d::dot_product(va, v)) > papb)
+        & (float::abs(coo3d::dot_product(vb, v)) > papb)
+    {
         Crossing::At(i)
     } else {
         Crossing::None
@@ -98,11 +98,11 @@ fn point_in_edge(a: Coo3D, b: Coo3D, from: Coo3D, to: Coo3D, ua: f64, ub: f64) -
 }
 
 // Whether both ends of the edge are nearer to the point than to each other.
-fn is_beyond(i: UnitVect3, pa: Vect3, pb: Vect3) -> bool
+fn is_beyond(i: UnitVect3, pa: Vect3, pb: Vect3, papb: f64) -> bool
+    requires { ⌜ papb ≡ dotOf pa pb ⌝ }
     ensures { λ r. ⌜ r ≡ isBeyond i pa pb ⌝ }
 {
     let v = i.to_vect3();
-    let papb = coo3d::dot_product(pa, pb);
     (coo3d::dot_product(pa, v) > papb) & (coo3d::dot_product(pb, v) > papb)
 }
 
@@ -111,13 +111,14 @@ fn circle_crossing(n: Vect3, from: Coo3D, to: Coo3D, normal: Vect3) -> Crossing
 {
     let pa = from.to_vect3();
     let pb = to.to_vect3();
+    let papb = coo3d::dot_product(pa, pb);
     let v = coo3d::cross_product(normal, n);
     let i = v.normalized();
-    if is_beyond(i, pa, pb) {
+    if is_beyond(i, pa, pb, papb) {
         return Crossing::At(i);
     }
     let o = i.opposite();
-    if is_beyond(o, pa, pb) {
+    if is_beyond(o, pa, pb, papb) {
         Crossing::At(o)
     } else {
         Crossing::None

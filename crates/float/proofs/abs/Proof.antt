@@ -1,28 +1,19 @@
 -- `float::abs` meets its contract, case by case. Assumes nothing.
-use Prim.Native.Nat.{ℕ, zero, suc, _+_, _*_, _^_, _≤_, _<_}
-use native.Mathlib.Nat.{mul-pos, pow-succ'}
+use Prim.Native.Nat.{ℕ, zero, suc, _+_, _*_, _^_, _<_}
+use native.Mathlib.Nat.{lt-irrefl, eq-zero-or-pos, mul-pos, pow-succ'}
 use native.Mathlib.Omega.{arith}
 use mathlib.Core.Path.{_≡_, refl, sym, ap, _∙_, subst}
-use mathlib.Core.Bool.{Bool, true, false, _&&_, true≢false, false≢true}
-use lib.Dec.{T, eqb, eqb→eq}
-use borrow.Author.Tests.{ltb-true, ltb-false, eqb-true, eq-eqb}
+use mathlib.Core.Bool.{Bool, true, false, _&&_, cond, true≢false, false≢true}
+use mathlib.Core.Logic.{⊎-elim}
+use lib.Dec.{T, eqb, ltb, eqb→eq}
+use borrow.Author.Tests.{ltb-false, eqb-true, eq-eqb}
 use lib.IntN.{ℤ, pos, negsuc}
 use lib.Ieee.{Float, nan, inf, fin, binary64, up, down, lt, eq, neg, ofBits, fits}
-use lib.Ieee.Fits.{up-pos}
-use Rattle.float.specs.Doubles.{absOf, nought}
+use lib.Ieee.Fits.{up-pos, down-pos}
+use Rattle.float.specs.Doubles.{absOf, maxOf, nought}
+use borrow.Author.Needs.{needs}
 use Rattle.float.proofs.abs.Statement.{statement}
 use Rattle.float.proofs.abs.Tie as tie
-
-negative : (x : Float) → lt x nought ≡ true → neg x ≡ absOf x
-unfolding lt neg absOf ofBits
-negative nan h = refl
-negative (inf true) h = refl
-negative (inf false) h = absurd (false≢true h)
-negative (fin true m e) h = refl
-negative (fin false m e) h = absurd (no (down e) (ltb-true (m * up e * 1) (0 * 1 * down e) h))
-  where
-    no : {a : ℕ} (d : ℕ) → a < 0 * 1 * d → ⊥
-    no d l = omega arith
 
 -- a zero is written in one way
 at-one : (s : Bool) (e : ℤ) → T (fits binary64 (fin s 0 e)) → e ≡ pos 0
@@ -51,25 +42,33 @@ none (fin s (suc m) e) f h = absurd (no (suc m * up e) (down e) (mul-pos (omega 
     no : (a d : ℕ) → 0 < a → a * 1 ≡ 0 * 1 * d → ⊥
     no a d p g = omega arith
 
-positive : (x : Float) → lt x nought ≡ false → eq x nought ≡ false → x ≡ absOf x
-unfolding lt eq absOf ofBits
-positive nan h k = refl
-positive (inf true) h k = absurd (true≢false h)
-positive (inf false) h k = refl
-positive (fin true m e) h k = absurd (no (m * up e * 1) (0 * 1 * down e) (ltb-false 0 (m * up e * 1 + 0 * 1 * down e) h) k)
+-- of any other number, the larger one of it and its opposite
+other : (x : Float) → eq x nought ≡ false → maxOf x (neg x) ≡ absOf x
+unfolding lt eq neg absOf ofBits
+other nan h = refl
+other (inf true) h = refl
+other (inf false) h = refl
+other (fin false m e) h = refl
+other (fin true m e) h = go (ltb 0 (m * up e * down e + m * up e * down e)) refl
   where
-    no : (a b : ℕ) → a + b ≤ 0 → eqb a b && eqb a 0 ≡ false → ⊥
-    no a b l g = true≢false (sym (ap (λ (t : Bool). t && eqb a 0) (eq-eqb a b (omega arith)) ∙ eq-eqb a 0 (omega arith)) ∙ g)
-positive (fin false m e) h k = refl
+    no : (a b : ℕ) → a ≡ 0 → b ≡ 0 → eqb a b && eqb a 0 ≡ false → ⊥
+    no a b p q g = true≢false (sym (ap (λ (t : Bool). t && eqb a 0) (eq-eqb a b (p ∙ sym q)) ∙ eq-eqb a 0 p) ∙ g)
+
+    some : m * up e ≡ 0 → ⊥
+    some z = no (m * up e * 1) (0 * 1 * down e) (omega (arith, z)) (omega arith) h
+
+    go : (b : Bool) → ltb 0 (m * up e * down e + m * up e * down e) ≡ b → cond b (fin false m e) (fin true m e) ≡ fin false m e
+    go true k = refl
+    go false k = absurd (⊎-elim some (λ q. lt-irrefl 0 (omega (arith, mul-pos q (down-pos e), ltb-false 0 (m * up e * down e + m * up e * down e) k))) (eq-zero-or-pos (m * up e)))
+
+max-requires : tie.Need-max-requires
+max-requires c κs = search needs
 
 returns : tie.Need-returns
-returns c = negative (c .before .args .x) (c .if1 .taken)
+returns c = none (c .before .args .x) (subst T (sym (c .before .good .0 .1)) tt) (c .if1 .taken)
 
 returns-2 : tie.Need-returns-2
-returns-2 c = none (c .before .before .args .x) (subst T (sym (c .before .before .good .0 .1)) tt) (c .if2 .taken)
-
-returns-3 : tie.Need-returns-3
-returns-3 c = positive (c .before .before .args .x) (c .before .if1 .left) (c .if2 .left)
+returns-2 c = c .max .ensures ∙ other (c .before .before .args .x) (c .before .if1 .left)
 
 pub abs-spec : {M : Type 1} → statement M
-abs-spec = tie.close (tie.spec returns returns-2 returns-3)
+abs-spec = tie.close (tie.spec max-requires returns returns-2)

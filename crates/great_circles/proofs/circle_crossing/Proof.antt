@@ -31,6 +31,9 @@ to-vect3-requires c κs = search needs
 to-vect3-requires-2 : tie.Need-to-vect3-requires-2
 to-vect3-requires-2 c κs = search needs
 
+dot-product-requires : tie.Need-dot-product-requires
+dot-product-requires c κs = search needs
+
 cross-product-requires : tie.Need-cross-product-requires
 cross-product-requires c κs = search needs
 
@@ -38,22 +41,22 @@ normalized-requires : tie.Need-normalized-requires
 normalized-requires c κs = search needs
 
 is-beyond-requires : tie.Need-is-beyond-requires
-is-beyond-requires c κs = search needs
+is-beyond-requires c κs = c .before .before .dot-product .ensures
 
 returns : tie.Need-returns
-returns c = at-first _ _ _ _ _ _ _ (c .before .before .before .before .before .to-vect3 .ensures) (c .before .before .before .before .to-vect32 .ensures) (c .before .before .before .cross-product .ensures) (c .before .before .normalized .ensures) (c .before .is-beyond .ensures) (c .if1 .taken)
+returns c = at-first _ _ _ _ _ _ _ (c .before .before .before .before .before .before .to-vect3 .ensures) (c .before .before .before .before .before .to-vect32 .ensures) (c .before .before .before .cross-product .ensures) (c .before .before .normalized .ensures) (c .before .is-beyond .ensures) (c .if1 .taken)
 
 opposite-requires : tie.Need-opposite-requires
 opposite-requires c κs = search needs
 
 is-beyond-requires-2 : tie.Need-is-beyond-requires-2
-is-beyond-requires-2 c κs = search needs
+is-beyond-requires-2 c κs = c .before .before .before .before .before .dot-product .ensures
 
 returns-2 : tie.Need-returns-2
-returns-2 c = at-second _ _ _ _ _ _ _ (c .before .before .before .before .before .before .before .before .to-vect3 .ensures) (c .before .before .before .before .before .before .before .to-vect32 .ensures) (c .before .before .before .before .before .before .cross-product .ensures) (c .before .before .before .before .before .normalized .ensures) (c .before .before .before .before .is-beyond .ensures) _ _ (c .before .before .opposite .ensures) (c .before .is-beyond2 .ensures) (c .before .before .before .if1 .left) (c .if2 .taken)
+returns-2 c = at-second _ _ _ _ _ _ _ (c .before .before .before .before .before .before .before .before .before .to-vect3 .ensures) (c .before .before .before .before .before .before .before .before .to-vect32 .ensures) (c .before .before .before .before .before .before .cross-product .ensures) (c .before .before .before .before .before .normalized .ensures) (c .before .before .before .before .is-beyond .ensures) _ _ (c .before .before .opposite .ensures) (c .before .is-beyond2 .ensures) (c .before .before .before .if1 .left) (c .if2 .taken)
 
 returns-3 : tie.Need-returns-3
-returns-3 c = nowhere _ _ _ _ _ _ _ (c .before .before .before .before .before .before .before .before .to-vect3 .ensures) (c .before .before .before .before .before .before .before .to-vect32 .ensures) (c .before .before .before .before .before .before .cross-product .ensures) (c .before .before .before .before .before .normalized .ensures) (c .before .before .before .before .is-beyond .ensures) _ _ (c .before .before .opposite .ensures) (c .before .is-beyond2 .ensures) (c .before .before .before .if1 .left) (c .if2 .left)
+returns-3 c = nowhere _ _ _ _ _ _ _ (c .before .before .before .before .before .before .before .before .before .to-vect3 .ensures) (c .before .before .before .before .before .before .before .before .to-vect32 .ensures) (c .before .before .before .before .before .before .cross-product .ensures) (c .before .before .before .before .before .normalized .ensures) (c .before .before .before .before .is-beyond .ensures) _ _ (c .before .before .opposite .ensures) (c .before .is-beyond2 .ensures) (c .before .before .before .if1 .left) (c .if2 .left)
 
 pub circle-crossing-spec : {M : Type 1} → statement M
 circle-crossing-spec =
@@ -61,6 +64,7 @@ circle-crossing-spec =
     (tie.spec
     to-vect3-requires
     to-vect3-requires-2
+    dot-product-requires
     cross-product-requires
     normalized-requires
     is-beyond-requires

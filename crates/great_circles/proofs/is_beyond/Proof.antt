@@ -13,12 +13,9 @@ dot-product-requires c κs = search needs
 dot-product-requires-2 : tie.Need-dot-product-requires-2
 dot-product-requires-2 c κs = search needs
 
-dot-product-requires-3 : tie.Need-dot-product-requires-3
-dot-product-requires-3 c κs = search needs
-
 returns : tie.Need-returns
 unfolding isBeyond
-returns c = simp (c .dot-product3 .ensures, c .before .dot-product2 .ensures, c .before .before .dot-product .ensures, c .before .before .before .to-vect3 .ensures)
+returns c = simp (c .dot-product2 .ensures, c .before .dot-product .ensures, c .before .before .to-vect3 .ensures, c .before .before .before .pre)
 
 pub is-beyond-spec : {M : Type 1} → statement M
 is-beyond-spec =
@@ -27,5 +24,4 @@ is-beyond-spec =
     to-vect3-requires
     dot-product-requires
     dot-product-requires-2
-    dot-product-requires-3
     returns)
