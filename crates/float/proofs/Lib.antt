@@ -1,3 +1,4 @@
 pub mod Constants
 pub mod Finite
 pub mod Nan
+pub mod Products

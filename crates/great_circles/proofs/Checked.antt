@@ -7,7 +7,6 @@ use Rattle.domain.specs.Checks.{pointAt}
 use Rattle.domain.proofs.Counts.{count-few}
 use Rattle.domain.proofs.Points.{point-refused}
 use Rattle.refusal.specs.Answer.{Answer, answered, refused}
-use Rattle.coo3d.specs.declared.UnitVect3.{UnitVect3}
 use Rattle.crossings.specs.Crossings.{crossingsOf}
 use Rattle.region.specs.View.{View, edgesOf}
 use Rattle.great_circles.specs.Arcs.{westOf, eastOf, arcCrossing}

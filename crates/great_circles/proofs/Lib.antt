@@ -1,4 +1,3 @@
 pub mod Checked
-pub mod Doubles
 pub mod Head
 pub mod Passing

@@ -9,35 +9,28 @@ use lib.ListN.{length, getD}
 use Rattle.coo3d.specs.declared.Coo3D.{Coo3D}
 use Rattle.coo3d.specs.declared.UnitVect3.{UnitVect3}
 use Rattle.coo3d.specs.declared.Vect3.{Vect3}
+use Rattle.coo3d.proofs.Products.{dot-comm}
 use Rattle.coo3d.specs.Vectors.{vectOfPoint, vectOfUnit, dotOf}
 use Rattle.crossings.specs.declared.Crossing.{Crossing}
 use Rattle.crossings.specs.declared.Crossing.the-variants.{None}
 use Rattle.float.specs.Doubles.{nought, absOf, maxOf}
-use Rattle.region.specs.declared.Region.{Region}
 use Rattle.region.specs.Edges.{Edge}
 use Rattle.region.specs.View.{viewOf, nowhere, exactlyOne, edgesOf}
+use Rattle.region.proofs.Held.{held}
 use Rattle.region.proofs.Edges.{nothing, edgesLeft, start, turn, done}
 use Rattle.great_circles.specs.Arcs.{westOf, eastOf, overlapInLon, intersectPoint, inEdge, crossingOf, arcCrossing}
-use Rattle.great_circles.proofs.Doubles.{dot-either}
 
 -- ---- the edges, by the two arrays of a region
 
-abbrev pub ofArrays : List Coo3D → List Vect3 → ℕ → Region
-ofArrays vertices normals count = record { vertices = vertices; «cross_products» = normals; count = count; «contains_south_pole» = false }
-
 abbrev pub edgesBy : List Coo3D → List Vect3 → ℕ → List Edge
-edgesBy vertices normals count = edgesOf (viewOf (ofArrays vertices normals count))
+edgesBy vertices normals count = edgesOf (viewOf (held vertices normals count))
 
 -- those that are left from edge i on, where `before` is the index of its start
 abbrev pub leftBy : List Coo3D → List Vect3 → ℕ → ℕ → ℕ → List Edge
-leftBy vertices normals count before i = edgesLeft (ofArrays vertices normals count) (getD vertices before nowhere) i
+leftBy vertices normals count before i = edgesLeft (held vertices normals count) (getD vertices before nowhere) i
 
 abbrev pub edgeBy : List Coo3D → List Vect3 → ℕ → ℕ → Edge
 edgeBy vertices normals before i = record { from = getD vertices before nowhere; to = getD vertices i nowhere; normal = getD normals i nothing }
-
-pub same-edges : (r : Region) → edgesBy (r .vertices) (r .«cross_products») (r .count) ≡ edgesOf (viewOf r)
-unfolding edgesOf
-same-edges r = refl
 
 -- where the loop stands; the longitude is that of the edge's start
 pub record Stands (vertices : List Coo3D) (normals : List Vect3) (count before : ℕ) (lon : Float) (i : ℕ) : Type 0 where
@@ -50,20 +43,20 @@ pub record Stands (vertices : List Coo3D) (normals : List Vect3) (count before :
 
 module _ {vertices : List Coo3D} {normals : List Vect3} {count before : ℕ} {lon : Float} {i : ℕ} (s : Stands vertices normals count before lon i) where
   pub next-edge : i < count → leftBy vertices normals count before i ≡ edgeBy vertices normals before i ∷ leftBy vertices normals count i (i + 1)
-  next-edge h = turn (ofArrays vertices normals count) (getD vertices before nowhere) i (omega (arith, s .few, s .all-vertices)) (omega (arith, s .few, s .all-normals)) h
+  next-edge h = turn (held vertices normals count) (getD vertices before nowhere) i (omega (arith, s .few, s .all-vertices)) (omega (arith, s .few, s .all-normals)) h
 
   pub stands-next : i < count → Stands vertices normals count i (getD vertices i nowhere .lon) (i + 1)
   stands-next h = record { few = s .few; all-vertices = s .all-vertices; all-normals = s .all-normals; in-count = omega (arith, h); some = h; lon-is = refl }
 
   pub none-left : count ≤ i → leftBy vertices normals count before i ≡ []
-  none-left h = done (ofArrays vertices normals count) (getD vertices before nowhere) i (omega (arith, s .few, s .all-vertices)) h
+  none-left h = done (held vertices normals count) (getD vertices before nowhere) i (omega (arith, s .few, s .all-vertices)) h
 
 module _ (vertices : List Coo3D) (normals : List Vect3) (count : ℕ) (some : count ≡ 0 → ⊥) (few : count ≤ 64) (v : length vertices ≡ 64) (n : length normals ≡ 64) where
   pub stands-first : Stands vertices normals count (count - 1) (getD vertices (count - 1) nowhere .lon) 0
   stands-first = record { few = few; all-vertices = v; all-normals = n; in-count = omega arith; some = omega (arith, some); lon-is = refl }
 
   pub all-left : edgesBy vertices normals count ≡ leftBy vertices normals count (count - 1) 0
-  all-left = start (ofArrays vertices normals count) (omega (arith, some)) (omega (arith, few, v))
+  all-left = start (held vertices normals count) (omega (arith, some)) (omega (arith, few, v))
 
 -- ---- an edge's crossing
 
@@ -79,7 +72,7 @@ unfolding inEdge
 in-edge-either i pa pb =
     let va = vectOfPoint pa in
     let vb = vectOfPoint pb in
-    rw (dot-either va vb, &&-either (lt (dotOf vb va) (absOf (dotOf va (vectOfUnit i)))) (lt (dotOf vb va) (absOf (dotOf vb (vectOfUnit i)))))
+    rw (dot-comm va vb, &&-either (lt (dotOf vb va) (absOf (dotOf va (vectOfUnit i)))) (lt (dotOf vb va) (absOf (dotOf vb (vectOfUnit i)))))
 
 module _ (a b : Coo3D) (e : Edge) where
   abbrev ua : Float

@@ -1,39 +1,14 @@
--- Case A does not turn on which end of the edge is the southern one: a product of doubles does not on the order of its factors.
-use Prim.Native.Nat.{_*_}
-use native.Mathlib.Nat.{mul-comm}
+-- Case A does not turn on which end of the edge is the southern one, as a product does not on the order of its factors.
 use mathlib.Core.Path.{_≡_, refl, ap}
 use mathlib.Core.Bool.{Bool, true, false, cond}
-use lib.Dec.{eqb}
-use lib.Ieee.{Float, nan, inf, fin, up, down, unlike, mul, lt}
+use lib.Ieee.{Float, lt}
 use Rattle.coo3d.specs.declared.Coo3D.{Coo3D}
 use Rattle.coo3d.specs.declared.Vect3.{Vect3}
 use Rattle.coo3d.specs.declared.UnitVect3.{UnitVect3}
-use Rattle.coo3d.specs.Vectors.{dotOf}
+use Rattle.coo3d.proofs.Products.{dot-comm}
 use Rattle.crossings.specs.declared.Crossing.the-variants.{At}
-use Rattle.float.specs.Doubles.{_⊗_, nought}
+use Rattle.float.specs.Doubles.{nought}
 use Rattle.parallels.specs.Parallels.{southOf, northOf, straddles, eitherOf, secondDegree, caseA}
-
-unlike-comm : (s t : Bool) → unlike s t ≡ unlike t s
-unlike-comm true true = refl
-unlike-comm true false = refl
-unlike-comm false true = refl
-unlike-comm false false = refl
-
-times-comm : (x y : Float) → x ⊗ y ≡ y ⊗ x
-unfolding mul
-times-comm nan nan = refl
-times-comm nan (inf t) = refl
-times-comm nan (fin t n d) = refl
-times-comm (inf s) nan = refl
-times-comm (inf s) (inf t) = ap inf (unlike-comm s t)
-times-comm (inf s) (fin t n d) = ap (λ (u : Bool). cond (eqb n 0) nan (inf u)) (unlike-comm s t)
-times-comm (fin s m e) nan = refl
-times-comm (fin s m e) (inf t) = ap (λ (u : Bool). cond (eqb m 0) nan (inf u)) (unlike-comm s t)
-times-comm (fin s m e) (fin t n d) = rw (unlike-comm s t, mul-comm (m * up e) (n * up d), mul-comm (down e) (down d)) refl
-
-dot-comm : (v w : Vect3) → dotOf v w ≡ dotOf w v
-unfolding dotOf
-dot-comm v w = rw (times-comm (v .x) (w .x), times-comm (v .y) (w .y), times-comm (v .z) (w .z)) refl
 
 straddles-comm : (p : UnitVect3) (a b : Coo3D) → straddles p a b ≡ straddles p b a
 unfolding straddles

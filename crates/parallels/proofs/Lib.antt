@@ -1,5 +1,4 @@
 pub mod Given
-pub mod Held
 pub mod Sides
 pub mod Ends
 pub mod First

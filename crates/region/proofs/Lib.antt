@@ -1,5 +1,6 @@
 pub mod Lengths
 pub mod Edges
+pub mod Held
 pub mod Corners
 pub mod Odd
 pub mod Flags

@@ -20,7 +20,8 @@ use Rattle.crossings.proofs.First.{tested-refused, first-passed, first-found, f
 use Rattle.great_circles.specs.Arcs.{arcCrossing}
 use Rattle.great_circles.specs.Queries.{arcFirstOf, arcCrossings}
 use Rattle.great_circles.proofs.Checked.{first-outside, second-outside, both-inside, by-longitude}
-use Rattle.great_circles.proofs.Passing.{edgesBy, leftBy, edgeBy, same-edges, Stands, next-edge, stands-next, none-left, stands-first, all-left, Numbers, apart, one-side, crossed}
+use Rattle.region.proofs.Held.{held-edges}
+use Rattle.great_circles.proofs.Passing.{edgesBy, leftBy, edgeBy, Stands, next-edge, stands-next, none-left, stands-first, all-left, Numbers, apart, one-side, crossed}
 use Rattle.great_circles.proofs.intersect_great_circle_arc.Statement.{statement}
 use Rattle.great_circles.proofs.intersect_great_circle_arc.Tie as tie
 
@@ -52,7 +53,7 @@ module _ (x : tie.After-last Inv-loop μ-loop) where
   whole : firstOf (crossingsOf hit (edgesBy (region .vertices) (region .«cross_products») (region .count))) ≡ arcFirstOf (viewOf region) (start-of .args .a) (start-of .args .b)
   unfolding arcFirstOf
   whole =
-      ap (λ (es : List Edge). firstOf (crossingsOf hit es)) (same-edges region)
+      ap (λ (es : List Edge). firstOf (crossingsOf hit es)) (held-edges region)
       ∙ ap firstOf (by-longitude (viewOf region) _ _ _ _ (x .before .before .before .before .before .before .west-of .ensures) (x .before .before .before .before .before .east-of .ensures))
       ∙ sym
       (both-inside (region .count) (start-of .args .a) (start-of .args .b) (λ p q. firstOf (arcCrossings (viewOf region) p q)) some few _

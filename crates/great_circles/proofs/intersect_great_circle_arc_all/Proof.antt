@@ -22,7 +22,8 @@ use Rattle.crossings.proofs.Gather.{Turn, turned, Gathered, gathered-start, gat
 use Rattle.great_circles.specs.Arcs.{arcCrossing}
 use Rattle.great_circles.specs.Queries.{arcAllOf, arcCrossings}
 use Rattle.great_circles.proofs.Checked.{first-outside, second-outside, both-inside, by-longitude}
-use Rattle.great_circles.proofs.Passing.{ofArrays, edgesBy, leftBy, edgeBy, same-edges, Stands, next-edge, stands-next, none-left, stands-first, all-left, Numbers, apart, one-side, crossed}
+use Rattle.region.proofs.Held.{held, held-edges}
+use Rattle.great_circles.proofs.Passing.{edgesBy, leftBy, edgeBy, Stands, next-edge, stands-next, none-left, stands-first, all-left, Numbers, apart, one-side, crossed}
 use Rattle.great_circles.proofs.intersect_great_circle_arc_all.Statement.{statement}
 use Rattle.great_circles.proofs.intersect_great_circle_arc_all.Tie as tie
 
@@ -56,7 +57,7 @@ module _ (x : tie.After-last Inv-loop μ-loop) where
   whole : allOf (crossingsOf hit (edgesBy (region .vertices) (region .«cross_products») (region .count))) ≡ arcAllOf (viewOf region) (start-of .args .a) (start-of .args .b)
   unfolding arcAllOf
   whole =
-      ap (λ (es : List Edge). allOf (crossingsOf hit es)) (same-edges region)
+      ap (λ (es : List Edge). allOf (crossingsOf hit es)) (held-edges region)
       ∙ ap allOf (by-longitude (viewOf region) _ _ _ _ (x .before .before .before .before .before .before .before .west-of .ensures) (x .before .before .before .before .before .before .east-of .ensures))
       ∙ sym
       (both-inside (region .count) (start-of .args .a) (start-of .args .b) (λ p q. allOf (arcCrossings (viewOf region) p q)) some few _
@@ -191,7 +192,7 @@ array-copy-out-last c = omega (arith, c .before .before .before .before .before 
 loop-holds : tie.Need-loop-holds Inv-loop μ-loop
 loop-holds c =
     let l = lengths (start-of c) in
-    (stands-first _ _ _ (some c) (few c) (l .0) (l .1), gathered-start (omega (arith, edges-length (ofArrays (region c .vertices) (region c .«cross_products») (region c .count)), few c)) (c .before .no-points .ensures) (all-left _ _ _ (some c) (few c) (l .0) (l .1)))
+    (stands-first _ _ _ (some c) (few c) (l .0) (l .1), gathered-start (omega (arith, edges-length (held (region c .vertices) (region c .«cross_products») (region c .count)), few c)) (c .before .no-points .ensures) (all-left _ _ _ (some c) (few c) (l .0) (l .1)))
 
 mul-to : tie.Need-mul-to Inv-loop μ-loop
 mul-to c = search needs

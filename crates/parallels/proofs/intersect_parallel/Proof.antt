@@ -18,7 +18,7 @@ use Rattle.region.proofs.Edges.{edgesLeft, start}
 use Rattle.region.proofs.Lengths.{unmap}
 use Rattle.parallels.proofs.Given.{parallel-refused, parallel-passed}
 use Rattle.parallels.proofs.First.{fit-not, fit-here, fit-nowhere, only-passed, only-refused}
-use Rattle.parallels.proofs.Held.{held, heldOf, held-edges}
+use Rattle.region.proofs.Held.{held, heldOf, held-edges}
 use Rattle.parallels.proofs.Sides.{alike, one-side}
 use Rattle.parallels.specs.Parallels.{spansLat}
 use Rattle.parallels.specs.Queries.{firstFit, parallelFirstOf}

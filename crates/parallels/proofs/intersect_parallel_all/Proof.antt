@@ -20,7 +20,7 @@ use Rattle.region.specs.View.{viewOf, nowhere, edgesOf}
 use Rattle.region.proofs.Edges.{nothing, edgesLeft, start, turn, done, edges-length}
 use Rattle.region.proofs.Lengths.{unmap}
 use Rattle.parallels.proofs.Given.{parallel-refused, parallel-passed}
-use Rattle.parallels.proofs.Held.{held, heldOf, held-edges}
+use Rattle.region.proofs.Held.{held, heldOf, held-edges}
 use Rattle.parallels.proofs.Sides.{alike, one-side, not-crossed}
 use Rattle.parallels.specs.Parallels.{parallelCrossing}
 use Rattle.parallels.specs.Queries.{parallelAllOf}

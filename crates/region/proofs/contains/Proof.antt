@@ -21,6 +21,7 @@ use Rattle.region.specs.Edges.{Edge, inLonRange, isCounted}
 use Rattle.region.specs.View.{View, viewOf, nowhere, exactlyOne, oddMany, oddAt, contained, edgesOf}
 use Rattle.region.specs.Region.{containsOf}
 use Rattle.region.proofs.Lengths.{unmap}
+use Rattle.region.proofs.Held.{held, heldOf}
 use Rattle.region.proofs.Edges.{edgesLeft, edgeAt, start, turn, done}
 use Rattle.region.proofs.Odd.{odd-turn, odd-done, one-false}
 use Rattle.region.proofs.contains.Statement.{statement}
@@ -58,9 +59,6 @@ in-range-there p e odd v d h i j = rw (h, sym i, j)
 long : (n m : ℕ) → m ≡ 64 → n ≤ 64 → n ≤ m
 long n m e h = omega (arith, e, h)
 
-abbrev whole : ℕ → List Coo3D → List Vect3 → Region
-whole n vs ns = record { vertices = vs; «cross_products» = ns; count = n; «contains_south_pole» = false }
-
 abbrev Inv-loop : tie.InvT-loop
 Inv-loop r count p is-inside vertices last from₀ i₀ from i = (i ≤ r .count) × (exactlyOne (r .«contains_south_pole») (oddMany (isCounted p) (edgesLeft r from i)) ≡ contained p (viewOf r))
 
@@ -68,7 +66,7 @@ abbrev μ-loop : tie.MeasureT-loop
 μ-loop r count p is-inside vertices last from₀ i₀ from i = r .count - i
 
 abbrev Inv-loop2 : tie.InvT-loop2
-Inv-loop2 count p is-inside₀ vertices last from₀ i₀ v normals is-inside from i = (i ≤ count) × (exactlyOne is-inside (oddMany (isCounted p) (edgesLeft (whole count vertices normals) from i)) ≡ exactlyOne is-inside₀ (oddMany (isCounted p) (edgesLeft (whole count vertices normals) from₀ i₀)))
+Inv-loop2 count p is-inside₀ vertices last from₀ i₀ v normals is-inside from i = (i ≤ count) × (exactlyOne is-inside (oddMany (isCounted p) (edgesLeft (held vertices normals count) from i)) ≡ exactlyOne is-inside₀ (oddMany (isCounted p) (edgesLeft (held vertices normals count) from₀ i₀)))
 
 abbrev μ-loop2 : tie.MeasureT-loop2
 μ-loop2 count p is-inside₀ vertices last from₀ i₀ v normals is-inside from i = count - i
@@ -185,7 +183,7 @@ loop2-again c =
     let p = c .before .before .before .before .before .before .before .before .before .before .before .before .before .p .given .0 .0 in
     let m = c .before .before .before .before .loop2 in
     let few = c .before .before .before .before .before .before .before .before .before .before .before .before .before .before .before .before .if2 .left in
-    let w = whole (r .count) (r .vertices) (r .«cross_products») in
+    let w = heldOf r in
     let in-range = c .before .is-in-lon-range2 .ensures in
     let goes-on : c .if5 .is-inside ≡ exactlyOne (m .is-inside) (isCounted p (edgeAt w (m .from) (m .i))) =
     elim (c .if5 .came) [
