@@ -73,7 +73,10 @@ fn corner_for(count: usize, most: usize, there: bool, corner: Coo3D) -> PointChe
     if !there {
         return PointCheck::Refused(Cause::NoSuchIndex);
     }
-    domain::check_point(corner, 0)
+    let PointCheck::Point(p) = domain::check_point(corner, 0) else {
+        return PointCheck::Refused(Cause::OutsideDomain(0));
+    };
+    PointCheck::Point(p)
 }
 
 // The two normals that touch the corner are worked out, at count 1 the one edge's. Both answers are made of one
