@@ -11,7 +11,7 @@ LISTS ?= 10000
 help:
 	@echo 'make demo          runs the example: makes a region file and asks the C doors who is inside'
 	@echo 'make lib           build/libjigwandor.a and build/jigwandor.h, for C programs'
-	@echo 'make test          the whole gate: proofs, must-fail edits, fixed list, docs/CALLS.md, C tests, comparison with upstream'
+	@echo 'make test          the whole gate: proofs, must-fail edits, fixed list, docs/CALLS.md and docs/TRACE.md, C tests, comparison with upstream'
 	@echo 'make doors         the C tests alone'
 	@echo 'make differential  SEED=n COUNT=n: compares that many requests with upstream'
 	@echo 'make lists         SEED=n LISTS=n: compares that many lists of 1 to 200 edits with upstream'
