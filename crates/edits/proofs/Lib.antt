@@ -1,9 +1,3 @@
 pub mod Checked
 pub mod Moved
 pub mod PutAt
-pub mod Legal
-pub mod Good
-pub mod One
-pub mod Parity
-pub mod Turned
-pub mod Theorem

@@ -1,5 +1,5 @@
 -- The six edits: document 01, 'Edits and the plain record'. The table is read with a count; then the edit changes a region's view.
-use Prim.Native.Nat.{ℕ, _+_, _-_}
+use Prim.Native.Nat.{ℕ}
 use mathlib.Core.Path.{_≡_}
 use mathlib.Core.Bool.{Bool, not, cond}
 use mathlib.Core.List.{[]}
@@ -14,7 +14,7 @@ use Rattle.refusal.specs.declared.Outcome.the-variants.{Refused}
 use Rattle.region.specs.declared.Region.{Region}
 use Rattle.region.specs.declared.ContainsSouthPoleMethod.{ContainsSouthPoleMethod}
 use Rattle.region.specs.Edges.{normalOf}
-use Rattle.region.specs.View.{View, viewOf, withFlag, nowhere, contained}
+use Rattle.region.specs.View.{View, viewOf, withFlag, withCorners, nowhere, contained}
 use Rattle.region.specs.Poles.{ruleFlag}
 use Rattle.region.specs.Region.{ruleAt}
 use Rattle.edits.specs.declared.EditAnswer.{EditAnswer}
@@ -42,9 +42,9 @@ checked n (rule m) = withCount n (andThen (ruleAt n m) (λ k. answered (rule k))
 -- ---- on a region: the other normals stay as stored, and hold and the control points go by the stored ones
 
 unfoldable pub changed : Edit → View → View
-changed (put i p) v = record { count = v .count; corners = set (v .corners) i p; normals = putAlong nowhere normalOf (v .corners) i p (v .normals); flag = v .flag }
-changed (insert i p) v = record { count = v .count + 1; corners = ins i p (v .corners); normals = insAlong nowhere normalOf (v .corners) i p (v .normals); flag = v .flag }
-changed (remove i) v = record { count = v .count - 1; corners = del i (v .corners); normals = delAlong nowhere normalOf (v .corners) i (v .normals); flag = v .flag }
+changed (put i p) v = withCorners v (set (v .corners) i p) (putAlong nowhere normalOf (v .corners) i p (v .normals))
+changed (insert i p) v = withCorners v (ins i p (v .corners)) (insAlong nowhere normalOf (v .corners) i p (v .normals))
+changed (remove i) v = withCorners v (del i (v .corners)) (delAlong nowhere normalOf (v .corners) i (v .normals))
 changed turn v = withFlag v (not (v .flag))
 changed (hold p) v = withFlag v (cond (contained p v) (v .flag) (not (v .flag)))
 changed (rule m) v = withFlag v (ruleFlag m v)

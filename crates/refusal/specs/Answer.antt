@@ -37,3 +37,7 @@ refuseIf false number values next = next
 abbrev pub andThen : {A B : Type 0} → Answer A → (A → Answer B) → Answer B
 andThen (answered a) next = next a
 andThen (refused number values) next = refused number values
+
+-- the outcome alone: done, or a refusal's number and values
+abbrev pub verdict : {A : Type 0} → Answer A → Answer Bool
+verdict x = andThen x (λ a. answered true)

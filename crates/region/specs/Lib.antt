@@ -2,3 +2,4 @@ pub mod Edges
 pub mod View
 pub mod Poles
 pub mod Region
+pub mod Made

@@ -1,13 +1,15 @@
 -- Building a region, and containment: what the calls answer.
 use Prim.Native.Nat.{ℕ}
+use mathlib.Core.Path.{_≡_}
 use mathlib.Core.Bool.{Bool, false}
 use mathlib.Core.List.{List}
 use Rattle.coo3d.specs.declared.Coo3D.{Coo3D}
 use Rattle.domain.specs.Checks.{pointAt, pointsOf, withCount}
-use Rattle.refusal.specs.Answer.{Answer, answered, andThen}
+use Rattle.refusal.specs.Answer.{Answer, answered, refused, andThen, outcomeOf}
+use Rattle.region.specs.declared.Built.{Built}
 use Rattle.region.specs.declared.ContainsSouthPoleMethod.{ContainsSouthPoleMethod}
 use Rattle.region.specs.declared.ContainsSouthPoleMethod.the-variants.{Default, DefaultComplement, ContainsSouthPole, DoNotContainsSouthPole, ControlPointIn, ControlPointOut}
-use Rattle.region.specs.View.{View, exactlyOne, oddAt, made, contained}
+use Rattle.region.specs.View.{View, viewOf, empty, exactlyOne, oddAt, made, contained}
 use Rattle.region.specs.Poles.{ruleFlag}
 
 -- every call on a region value tests its count first
@@ -36,3 +38,13 @@ flagOf v rule = withCount (v .count) (andThen (ruleAt (v .count) rule) (λ check
 -- the corners are checked (2, 3, 1), then the rule's control point; the rule sets the flag
 unfoldable pub buildOf : List Coo3D → ℕ → ContainsSouthPoleMethod → Answer View
 buildOf points count rule = andThen (pointsOf points count) (λ cs. andThen (flagOf (made cs false) rule) (λ flag. answered (made cs flag)))
+
+-- the region beside an outcome: where the build is refused it has no corners and a clear flag, so that every call on it refuses it as 2
+abbrev pub regionBy : Answer View → View
+regionBy (answered v) = v
+regionBy (refused number values) = empty false
+
+-- a call's answer, a region beside an outcome, is this one
+pub record Builds (b : Built) (answer : Answer View) : Type 0 where
+  pub outcome : outcomeOf (b .outcome) (regionBy answer) ≡ answer
+  pub view : viewOf (b .region) ≡ regionBy answer

@@ -28,6 +28,14 @@ viewOf r =
 abbrev pub withFlag : View → Bool → View
 withFlag v flag = record { count = v .count; corners = v .corners; normals = v .normals; flag = flag }
 
+-- a view once its corners and normals are these: whatever else a region keeps of its corners joins here
+abbrev pub withCorners : View → List Coo3D → List Vect3 → View
+withCorners v cs ns = record { count = length cs; corners = cs; normals = ns; flag = v .flag }
+
+-- no corners, and a flag
+abbrev pub empty : Bool → View
+empty flag = record { count = 0; corners = []; normals = []; flag = flag }
+
 -- ---- edges
 
 -- the last corner; `nowhere` is read only where there is none
@@ -69,4 +77,4 @@ normalsOf cs = along normalOf (lastOf nowhere cs) cs
 
 -- the corners with their edges' normals, and a flag
 abbrev pub made : List Coo3D → Bool → View
-made cs flag = record { count = length cs; corners = cs; normals = normalsOf cs; flag = flag }
+made cs flag = withCorners (empty flag) cs (normalsOf cs)

@@ -14,33 +14,33 @@ use lib.Pow.{areBytes}
 use lib.Seq.{length-take-le}
 use Rattle.domain.proofs.Inside.{both}
 use Rattle.float.specs.Doubles.{isFinite}
-use Rattle.region_file.specs.Bytes.{numberOf, bytesOf, numberAt, doubleAt, doubleBytes}
+use Rattle.region_file.specs.Bytes.{numberIn, bytesOf, numberAt, doubleAt, doubleBytes}
 
 -- ---- a number of `w` bytes
 
-pub number-bytes : (w n : ℕ) → n < 256 ^ w → numberOf (bytesOf w n) ≡ n
-unfolding numberOf bytesOf
+pub number-bytes : (w n : ℕ) → n < 256 ^ w → numberIn (bytesOf w n) ≡ n
+unfolding numberIn bytesOf
 number-bytes zero n h = omega (arith, h)
 number-bytes (suc w) n h =
     let p : 256 ^ suc w ≡ 256 * 256 ^ w = pow-suc 256 w ∙ mul-comm (256 ^ w) 256 in
     let small : n / 256 < 256 ^ w = omega (arith, h, p) in
-    let rest : numberOf (bytesOf w (n / 256)) ≡ n / 256 = number-bytes w (n / 256) small in
+    let rest : numberIn (bytesOf w (n / 256)) ≡ n / 256 = number-bytes w (n / 256) small in
     omega (arith, rest)
 
 -- ---- bytes
 
-pub bytes-number : (bs : List ℕ) → areBytes bs ≡ true → bytesOf (length bs) (numberOf bs) ≡ bs
-unfolding numberOf bytesOf
+pub bytes-number : (bs : List ℕ) → areBytes bs ≡ true → bytesOf (length bs) (numberIn bs) ≡ bs
+unfolding numberIn bytesOf
 bytes-number [] h = refl
 bytes-number (b ∷ bs) h =
     let t = both (ltb b 256) (areBytes bs) h in
     let small : b < 256 = ltb-true b 256 (t .0) in
-    let low : (b + 256 * numberOf bs) % 256 ≡ b = omega (arith, small) in
-    let high : (b + 256 * numberOf bs) / 256 ≡ numberOf bs = omega (arith, small) in
+    let low : (b + 256 * numberIn bs) % 256 ≡ b = omega (arith, small) in
+    let high : (b + 256 * numberIn bs) / 256 ≡ numberIn bs = omega (arith, small) in
     rw (low, high, bytes-number bs (t .1))
 
-pub number-lt : (bs : List ℕ) → areBytes bs ≡ true → numberOf bs < 256 ^ length bs
-unfolding numberOf
+pub number-lt : (bs : List ℕ) → areBytes bs ≡ true → numberIn bs < 256 ^ length bs
+unfolding numberIn
 number-lt [] h = omega arith
 number-lt (b ∷ bs) h =
     let t = both (ltb b 256) (areBytes bs) h in
@@ -68,18 +68,18 @@ module _ (s : List ℕ) (at : ℕ) (bytes : areBytes s ≡ true) where
   pub bytes-at : (w : ℕ) → at + w ≤ length s → bytesOf w (numberAt w s at) ≡ take w (drop at s)
   unfolding numberAt
   bytes-at w h =
-      ap (λ (k : ℕ). bytesOf k (numberOf (take w (drop at s)))) (sym (length-part w h)) ∙ bytes-number (take w (drop at s)) (part-bytes w)
+      ap (λ (k : ℕ). bytesOf k (numberIn (take w (drop at s)))) (sym (length-part w h)) ∙ bytes-number (take w (drop at s)) (part-bytes w)
 
   pub number-at-lt : (w : ℕ) → at + w ≤ length s → numberAt w s at < 256 ^ w
   unfolding numberAt
-  number-at-lt w h = subst (λ (k : ℕ). numberOf (take w (drop at s)) < 256 ^ k) (length-part w h) (number-lt (take w (drop at s)) (part-bytes w))
+  number-at-lt w h = subst (λ (k : ℕ). numberIn (take w (drop at s)) < 256 ^ k) (length-part w h) (number-lt (take w (drop at s)) (part-bytes w))
 
 -- ---- doubles
 
 patterns : 2 * top binary64 ≡ 256 ^ 8
 patterns = refl
 
-pub double-written : (x : Float) → fits binary64 x ≡ true → ofBits binary64 (numberOf (doubleBytes x)) ≡ x
+pub double-written : (x : Float) → fits binary64 x ≡ true → ofBits binary64 (numberIn (doubleBytes x)) ≡ x
 double-written x h =
     let t : T (fits binary64 x) = subst T (sym h) tt in
     ap (ofBits binary64) (number-bytes 8 (toBits binary64 x) (subst (λ (k : ℕ). toBits binary64 x < k) patterns (toBits-lt binary64 x t))) ∙ ofBits-toBits binary64 x t

@@ -8,7 +8,7 @@ use mathlib.Core.List.{List, [], _∷_, _++_}
 use mir.Val.{boolByte}
 use lib.ListN.{length, take, drop, getD, set, length-drop}
 use lib.Seq.{sets, drop-cons, drop-drop, take-add, length-take-le}
-use Rattle.region_file.specs.Bytes.{numberOf, bytesOf, numberAt}
+use Rattle.region_file.specs.Bytes.{numberIn, bytesOf, numberAt}
 
 -- ---- stores, one run after the other
 
@@ -27,12 +27,12 @@ length-bytes (suc w) n = ap suc (length-bytes w (n / 256))
 pub run : (w n : ℕ) (rest l m : List ℕ) (i j : ℕ) → i + w ≡ j → m ≡ sets l i (bytesOf w n) → sets m j rest ≡ sets l i (bytesOf w n ++ rest)
 run w n rest l m i j e h = rw h (sets-then (bytesOf w n) rest l i j (omega (arith, e, length-bytes w n)))
 
-pub number-append : (xs ys : List ℕ) → numberOf (xs ++ ys) ≡ numberOf xs + 256 ^ length xs * numberOf ys
-unfolding numberOf
+pub number-append : (xs ys : List ℕ) → numberIn (xs ++ ys) ≡ numberIn xs + 256 ^ length xs * numberIn ys
+unfolding numberIn
 number-append [] ys = omega arith
 number-append (x ∷ xs) ys =
-    let step : 256 ^ suc (length xs) * numberOf ys ≡ 256 * (256 ^ length xs * numberOf ys) =
-    ap (λ (k : ℕ). k * numberOf ys) (pow-suc 256 (length xs) ∙ mul-comm (256 ^ length xs) 256) ∙ mul-assoc 256 (256 ^ length xs) (numberOf ys)
+    let step : 256 ^ suc (length xs) * numberIn ys ≡ 256 * (256 ^ length xs * numberIn ys) =
+    ap (λ (k : ℕ). k * numberIn ys) (pow-suc 256 (length xs) ∙ mul-comm (256 ^ length xs) 256) ∙ mul-assoc 256 (256 ^ length xs) (numberIn ys)
     in
     omega (arith, number-append xs ys, step)
 
@@ -45,7 +45,7 @@ flag-number false = refl
 
 module _ (s : List ℕ) (at : ℕ) where
   pub at-four : at + 4 ≤ length s → numberAt 4 s at ≡ getD s at 0 + 256 * getD s (at + 1) 0 + 65536 * getD s (at + 2) 0 + 16777216 * getD s (at + 3) 0
-  unfolding numberAt numberOf
+  unfolding numberAt numberIn
   at-four h =
       let a : at < length s = omega (arith, h) in
       let b : suc at < length s = omega (arith, h) in
@@ -64,4 +64,4 @@ module _ (s : List ℕ) (at : ℕ) where
   unfolding numberAt
   at-eight h =
       let l : 4 ≤ length (drop at s) = omega (arith, h, length-drop at s) in
-      ap numberOf (take-add 4 4 (drop at s)) ∙ number-append (take 4 (drop at s)) (take 4 (drop 4 (drop at s))) ∙ rw (length-take-le 4 (drop at s) l, drop-drop 4 at s)
+      ap numberIn (take-add 4 4 (drop at s)) ∙ number-append (take 4 (drop at s)) (take 4 (drop 4 (drop at s))) ∙ rw (length-take-le 4 (drop at s) l, drop-drop 4 at s)

@@ -6,9 +6,9 @@ use lib.ListN.{take, drop}
 use Rattle.coo3d.specs.declared.Coo3D.{Coo3D}
 
 -- the number that bytes hold
-unfoldable pub numberOf : List ℕ → ℕ
-numberOf [] = 0
-numberOf (b ∷ bs) = b + 256 * numberOf bs
+unfoldable pub numberIn : List ℕ → ℕ
+numberIn [] = 0
+numberIn (b ∷ bs) = b + 256 * numberIn bs
 
 -- the lowest `width` bytes of a number
 unfoldable pub bytesOf : ℕ → ℕ → List ℕ
@@ -18,7 +18,7 @@ bytesOf (suc width) n = n % 256 ∷ bytesOf width (n / 256)
 -- ---- read from `at` on
 
 unfoldable pub numberAt : ℕ → List ℕ → ℕ → ℕ
-numberAt width s at = numberOf (take width (drop at s))
+numberAt width s at = numberIn (take width (drop at s))
 
 -- a double by its bits; every NaN pattern is a NaN
 abbrev pub doubleAt : List ℕ → ℕ → Float

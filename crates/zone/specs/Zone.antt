@@ -58,13 +58,13 @@ crossedHorizontally z lonLeft lonRight lat =
 unfoldable pub lonRangeCompatible : Zone → Float → Float → Bool
 lonRangeCompatible z lonW lonE = Bool·beq (z .«cross_primary_meridian») (lt lonE lonW) && le (z .«lon_min») lonW && lt lonE (z .«lon_max»)
 
-unfoldable pub containsOf : Zone → Float → Float → Bool
-containsOf z lon lat =
+unfoldable pub zoneContains : Zone → Float → Float → Bool
+zoneContains z lon lat =
     halfOpen (z .«lat_min») lat (z .«lat_max»)
     && cond (z .«cross_primary_meridian») (lt lon (z .«lon_max») || le (z .«lon_min») lon) (halfOpen (z .«lon_min») lon (z .«lon_max»))
 
-unfoldable pub containsExclusive : Zone → Float → Float → Bool
-containsExclusive z lon lat =
+unfoldable pub zoneContainsExclusive : Zone → Float → Float → Bool
+zoneContainsExclusive z lon lat =
     (lt (z .«lat_min») lat && lt lat (z .«lat_max»))
     && cond (z .«cross_primary_meridian») (lt lon (z .«lon_max») || lt (z .«lon_min») lon) (lt (z .«lon_min») lon && lt lon (z .«lon_max»))
 

@@ -1,6 +1,6 @@
 // Zones between two meridians and two parallels. Upstream: src/sph_geom/zone.rs.
 ghost use mathlib.Core.Path.{_≡_};
-ghost use Rattle.zone.specs.Zone.{boundsHold, raised, zoneAnswer, zoneOf, dlonOf, crossedVertically, crossedHorizontally, lonRangeCompatible, containsOf, containsExclusive, verticesOf};
+ghost use Rattle.zone.specs.Zone.{boundsHold, raised, zoneAnswer, zoneOf, dlonOf, crossedVertically, crossedHorizontally, lonRangeCompatible, zoneContains, zoneContainsExclusive, verticesOf};
 use coo3d::LonLat;
 use refusal::Cause;
 
@@ -110,7 +110,7 @@ impl Zone {
 
     // The zone without its east and north edges.
     pub fn contains(self, lon: f64, lat: f64) -> bool
-        ensures { λ r. ⌜ r ≡ containsOf self lon lat ⌝ }
+        ensures { λ r. ⌜ r ≡ zoneContains self lon lat ⌝ }
     {
         let is_lat_compatible = float::within_half_open(self.lat_min, lat, self.lat_max);
         if self.cross_primary_meridian {
@@ -122,7 +122,7 @@ impl Zone {
 
     // The zone without any edge.
     pub fn contains_exclusive(self, lon: f64, lat: f64) -> bool
-        ensures { λ r. ⌜ r ≡ containsExclusive self lon lat ⌝ }
+        ensures { λ r. ⌜ r ≡ zoneContainsExclusive self lon lat ⌝ }
     {
         let is_lat_compatible = (self.lat_min < lat) & (lat < self.lat_max);
         if self.cross_primary_meridian {

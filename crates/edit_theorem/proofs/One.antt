@@ -11,9 +11,9 @@ use Rattle.coo3d.specs.declared.Vect3.{Vect3}
 use Rattle.lists.proofs.Cyclic.{length-ins, length-del, put-one, ins-one, del-one}
 use Rattle.region.specs.Edges.{normalOf}
 use Rattle.region.specs.View.{View, nowhere, normalsOf, made}
 use Rattle.edits.specs.Edits.{Edit, changed}
-use Rattle.edits.specs.Record.{Plain, regionOf, edited}
-use Rattle.edits.proofs.Legal.{Legal, legal-put, legal-insert, legal-remove, legal-turn, legal-hold, legal-rule}
+use Rattle.edit_theorem.specs.Record.{Plain, regionOf, edited}
+use Rattle.edit_theorem.proofs.Legal.{Legal, legal-put, legal-insert, legal-remove, legal-turn, legal-hold, legal-rule}
 
 made-of : (n : ℕ) (cs : List Coo3D) (ns : List Vect3) (f : Bool) → n ≡ length cs → ns ≡ normalsOf cs → _≡_ {A = View} (record { count = n; corners = cs; normals = ns; flag = f }) (made cs f)
 made-of n cs ns f e h = rw (e, h)

@@ -18,9 +18,9 @@ use Rattle.region.specs.declared.ContainsSouthPoleMethod.{ContainsSouthPoleMeth
 use Rattle.region.specs.Edges.{isCounted}
 use Rattle.region.specs.View.{View, viewOf, made, exactlyOne, oddMany, contained}
 use Rattle.region.specs.Region.{flagOf, buildOf, containsOf}
 use Rattle.edits.specs.declared.EditAnswer.{EditAnswer}
 use Rattle.edits.specs.Edits.{Edit, Edited}
-use Rattle.edits.specs.Record.{Plain, checkedBy, after, movesCorner, takenOut, broughtIn, afresh}
+use Rattle.edit_theorem.specs.Record.{Plain, checkedBy, after, movesCorner, takenOut, broughtIn, afresh}
 
 -- ---- a list of edits, one after the other: each answer meets its call's contract, and its region is the next call's
 
@@ -44,10 +44,6 @@ pub record Agrees (s : Plain) (r : Region) : Type 0 where
   pub parallelFirst : (lat sin cos : Float) → parallelFirstOf (viewOf r) lat sin cos ≡ parallelFirstOf fresh lat sin cos
   pub parallelAll : (lat sin cos : Float) → parallelAllOf (viewOf r) lat sin cos ≡ parallelAllOf fresh lat sin cos
   pub parallelIs : (lat sin cos : Float) → isIntersectingParallel (viewOf r) lat sin cos ≡ isIntersectingParallel fresh lat sin cos
-
--- the outcome alone: done, or a refusal's number and values
-abbrev pub verdict : {A : Type 0} → Answer A → Answer Bool
-verdict x = andThen x (λ a. answered true)
 
 -- put, insert and remove turn a point's containment over exactly when an odd number of edges is counted there among those that they take out
 -- and bring in, taken together; an edge that is both counts twice

@@ -15,10 +15,10 @@ use Rattle.lists.specs.Cyclic.{lastOf, ins, del, along, nextOf, beforeOf}
 use Rattle.lists.proofs.Cyclic.{same-or-not}
 use Rattle.region.specs.Edges.{normalOf, isCounted}
 use Rattle.region.specs.View.{nowhere, edgesFrom, edgesOf, exactlyOne, oddMany, oddAt, contained, normalsOf, made}
 use Rattle.edits.specs.Edits.{Edit, put, insert, remove}
-use Rattle.edits.specs.Record.{Plain, regionOf, edited, movesCorner, edge, touching, takenOut, broughtIn}
-use Rattle.edits.proofs.Legal.{Legal, legal-put, legal-insert, legal-remove, legal-turn, legal-hold, legal-rule}
-use Rattle.edits.proofs.Parity.{odd, marks, cancel', last-at, next-other, parity-put, parity-alone, parity-ins, parity-del}
+use Rattle.edit_theorem.specs.Record.{Plain, regionOf, edited, movesCorner, edge, touching, takenOut, broughtIn}
+use Rattle.edit_theorem.proofs.Legal.{Legal, legal-put, legal-insert, legal-remove, legal-turn, legal-hold, legal-rule}
+use Rattle.edit_theorem.proofs.Parity.{odd, marks, cancel', last-at, next-other, parity-put, parity-alone, parity-ins, parity-del}
 
 -- the corner before i stays where i is put, unless it is i itself
 before-put : {C : Type 0} (d : C) (cs : List C) (i : ℕ) (p : C) → 1 < length cs → beforeOf d (set cs i p) i ≡ beforeOf d cs i

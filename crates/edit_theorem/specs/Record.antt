@@ -59,11 +59,11 @@ edge from to = record { from = from; to = to; normal = normalOf from to }
 abbrev pub cornerBefore : List Coo3D → ℕ → Coo3D
 cornerBefore cs i = beforeOf nowhere cs i
 
-abbrev pub cornerAt : List Coo3D → ℕ → Coo3D
-cornerAt cs i = getD cs i nowhere
+abbrev pub cornerHere : List Coo3D → ℕ → Coo3D
+cornerHere cs i = getD cs i nowhere
 
 abbrev pub cornerAfter : List Coo3D → ℕ → Coo3D
-cornerAfter cs i = cornerAt cs (nextOf (length cs) i)
+cornerAfter cs i = cornerHere cs (nextOf (length cs) i)
 
 -- the edge that a corner inserted before i splits: edge i, edge 0 on appending
 abbrev pub splitAt : List Coo3D → ℕ → ℕ
@@ -71,19 +71,19 @@ splitAt cs i = cond (eqb i (length cs)) 0 i
 
 -- put: the edges that touch the corner, at count 1 only edge 0
 abbrev pub touching : List Coo3D → ℕ → List Edge
-touching cs i = cond (eqb (length cs) 1) (edge (cornerAt cs i) (cornerAt cs i) ∷ []) (edge (cornerBefore cs i) (cornerAt cs i) ∷ edge (cornerAt cs i) (cornerAfter cs i) ∷ [])
+touching cs i = cond (eqb (length cs) 1) (edge (cornerHere cs i) (cornerHere cs i) ∷ []) (edge (cornerBefore cs i) (cornerHere cs i) ∷ edge (cornerHere cs i) (cornerAfter cs i) ∷ [])
 
 unfoldable pub takenOut : Edit → List Coo3D → List Edge
 takenOut (put i p) cs = touching cs i
-takenOut (insert i p) cs = edge (cornerBefore cs (splitAt cs i)) (cornerAt cs (splitAt cs i)) ∷ []
-takenOut (remove i) cs = edge (cornerBefore cs i) (cornerAt cs i) ∷ edge (cornerAt cs i) (cornerAfter cs i) ∷ []
+takenOut (insert i p) cs = edge (cornerBefore cs (splitAt cs i)) (cornerHere cs (splitAt cs i)) ∷ []
+takenOut (remove i) cs = edge (cornerBefore cs i) (cornerHere cs i) ∷ edge (cornerHere cs i) (cornerAfter cs i) ∷ []
 takenOut turn cs = []
 takenOut (hold p) cs = []
 takenOut (rule m) cs = []
 
 unfoldable pub broughtIn : Edit → List Coo3D → List Edge
 broughtIn (put i p) cs = touching (set cs i p) i
-broughtIn (insert i p) cs = edge (cornerBefore cs i) p ∷ edge p (cornerAt cs (splitAt cs i)) ∷ []
+broughtIn (insert i p) cs = edge (cornerBefore cs i) p ∷ edge p (cornerHere cs (splitAt cs i)) ∷ []
 broughtIn (remove i) cs = edge (cornerBefore cs i) (cornerAfter cs i) ∷ []
 broughtIn turn cs = []
 broughtIn (hold p) cs = []

@@ -19,10 +19,10 @@ use Rattle.region.specs.declared.ContainsSouthPoleMethod.{ContainsSouthPoleMeth
 use Rattle.region.specs.View.{View, made}
 use Rattle.region.specs.Region.{flagOf, buildOf}
 use Rattle.region.proofs.Flags.{flag-fixed}
 use Rattle.edits.specs.Edits.{Edit}
-use Rattle.edits.specs.Record.{Plain, regionOf, edited, afresh}
-use Rattle.edits.specs.Theorem.{startOf}
-use Rattle.edits.proofs.Legal.{Legal, legal-put, legal-insert, legal-remove, legal-turn, legal-hold, legal-rule}
+use Rattle.edit_theorem.specs.Record.{Plain, regionOf, edited, afresh}
+use Rattle.edit_theorem.specs.Theorem.{startOf}
+use Rattle.edit_theorem.proofs.Legal.{Legal, legal-put, legal-insert, legal-remove, legal-turn, legal-hold, legal-rule}
 
 pub record Good (cs : List Coo3D) : Type 0 where
   pub inside : Inside cs

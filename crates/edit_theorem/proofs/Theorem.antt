@@ -13,14 +13,14 @@ use Rattle.refusal.proofs.Answers.{never}
 use Rattle.region.specs.declared.Region.{Region}
 use Rattle.region.specs.View.{View, viewOf, exactlyOne, contained}
 use Rattle.region.specs.Region.{containsOf}
 use Rattle.edits.specs.declared.EditAnswer.{EditAnswer}
 use Rattle.edits.specs.Edits.{Edit, Edited, changed, editOf}
-use Rattle.edits.specs.Record.{Plain, regionOf, edited, checkedBy, settled, after}
-use Rattle.edits.specs.Theorem.{Run, stop, step, Agrees, verdict, Turns, Holds, at-end, at-edit, EditTheorem}
-use Rattle.edits.proofs.Legal.{Legal, legal}
-use Rattle.edits.proofs.Good.{Good, fresh-good, build-start, good-edited}
-use Rattle.edits.proofs.One.{changed-one}
-use Rattle.edits.proofs.Turned.{turned}
+use Rattle.edit_theorem.specs.Record.{Plain, regionOf, edited, checkedBy, settled, after}
+use Rattle.edit_theorem.specs.Theorem.{Run, stop, step, Agrees, verdict, Turns, Holds, at-end, at-edit, EditTheorem}
+use Rattle.edit_theorem.proofs.Legal.{Legal, legal}
+use Rattle.edit_theorem.proofs.Good.{Good, fresh-good, build-start, good-edited}
+use Rattle.edit_theorem.proofs.One.{changed-one}
+use Rattle.edit_theorem.proofs.Turned.{turned}
 
 agrees : (s : Plain) (r : Region) → Good (s .corners) → viewOf r ≡ regionOf s → Agrees s r
 agrees s r g v =
