@@ -1,61 +1,102 @@
--- Points that the checks take: they are in the domain, and are handed back as they are.
-use Prim.Native.Nat.{ℕ, suc}
-use mathlib.Core.Path.{_≡_, refl, sym, ap, subst, _∙_}
-use mathlib.Core.Bool.{Bool, true, false, not, _&&_, false≢true}
+-- Lists of points that the checks take, and of what they hand back.
+use Prim.Native.Nat.{ℕ, suc, _≤_, _<_}
+use native.Mathlib.Omega.{arith}
+use mathlib.Core.Path.{_≡_, refl, ap, subst, _∙_}
+use mathlib.Core.Bool.{Bool, true, false, _&&_, false≢true}
 use mathlib.Core.List.{List, [], _∷_}
 use lib.Ieee.{neg}
-use lib.ListN.{take}
+use lib.ListN.{length, take}
+use lib.Seq.{take-length}
 use Rattle.float.specs.Doubles.{isFinite, inclusive, nought, two, halfPi, twoPi}
 use Rattle.coo3d.specs.declared.Coo3D.{Coo3D}
-use Rattle.refusal.specs.Answer.{Answer, answered, refused, refuseIf, andThen}
+use Rattle.coo3d.specs.Points.{ofDoubles, areDoubles}
+use Rattle.lists.proofs.All.{All, none, more}
+use Rattle.refusal.specs.Answer.{Answer, answered, refused, andThen}
 use Rattle.refusal.proofs.Answers.{never, same-answer}
 use Rattle.domain.specs.Domain.{inDomain}
 use Rattle.domain.specs.Checks.{pointAt, pointsFrom, pointsOf}
-use Rattle.domain.proofs.Counts.{count-passed}
-
-pub data Inside : List Coo3D → Type 0 where
-  none : Inside []
-  more : {c : Coo3D} {cs : List Coo3D} → inDomain c ≡ true → Inside cs → Inside (c ∷ cs)
-
-point-in : (i : ℕ) (c : Coo3D) → inDomain c ≡ true → pointAt i c ≡ answered c
-unfolding pointAt
-point-in i c h = rw h
-
-pub from-in : (i : ℕ) {cs : List Coo3D} → Inside cs → pointsFrom i cs ≡ answered cs
-unfolding pointsFrom
-from-in i none = refl
-from-in i (more {c = c} h t) = rw (point-in i c h, from-in (suc i) t)
-
--- ---- from an answer
-
-then-cons : (c : Coo3D) (ps : List Coo3D) (x : Answer (List Coo3D)) (qs : List Coo3D) → inDomain c ≡ true → ((rs : List Coo3D) → x ≡ answered rs → (rs ≡ ps) × (Inside rs))
-    → andThen x (λ rs. answered (c ∷ rs)) ≡ answered qs → (qs ≡ c ∷ ps) × (Inside qs)
-then-cons c ps (answered rs) qs h f e =
-    let z : c ∷ rs ≡ qs = same-answer e in
-    let r = f rs refl in
-    (sym z ∙ ap (λ (t : List Coo3D). c ∷ t) (r .0), subst Inside z (more h (r .1)))
-then-cons c ps (refused n vs) qs h f e = never e
-
-then-point : (b : Bool) (i : ℕ) (c : Coo3D) (ps : List Coo3D) (x : Answer (List Coo3D)) (qs : List Coo3D) → inDomain c ≡ b → ((rs : List Coo3D) → x ≡ answered rs → (rs ≡ ps) × (Inside rs))
-    → andThen (refuseIf (not b) 1 (i ∷ []) (answered c)) (λ q. andThen x (λ rs. answered (q ∷ rs))) ≡ answered qs → (qs ≡ c ∷ ps) × (Inside qs)
-then-point true i c ps x qs h f e = then-cons c ps x qs h f e
-then-point false i c ps x qs h f e = never e
-
-from-answered : (ps : List Coo3D) (i : ℕ) (qs : List Coo3D) → pointsFrom i ps ≡ answered qs → (qs ≡ ps) × (Inside qs)
-unfolding pointsFrom pointAt
-from-answered [] i qs e = let z : [] ≡ qs = same-answer e in (sym z, subst Inside z none)
-from-answered (c ∷ ps) i qs e = then-point (inDomain c) i c ps (pointsFrom (suc i) ps) qs refl (from-answered ps (suc i)) e
-
-pub points-answered : (ps : List Coo3D) (n : ℕ) (qs : List Coo3D) → pointsOf ps n ≡ answered qs → (qs ≡ take n ps) × (Inside qs)
-unfolding pointsOf
-points-answered ps n qs e = from-answered (take n ps) 0 qs (count-passed n _ qs e)
-
--- ---- a point of the domain is finite
+use Rattle.domain.proofs.Counts.{count-few, count-passed}
+use Rattle.domain.proofs.Handed.{Settled, handed-same, handed-in, handed-again, handed-doubles}
 
 pub both : (a b : Bool) → (a && b) ≡ true → (a ≡ true) × (b ≡ true)
 both true true h = (refl, refl)
 both true false h = (refl, h)
 both false b h = (h, absurd (false≢true h))
+
+-- the check hands each of them back as it is
+abbrev pub Inside : List Coo3D → Type 0
+Inside cs = All Settled cs
+
+from-in : (i : ℕ) {cs : List Coo3D} → Inside cs → pointsFrom i cs ≡ answered cs
+unfolding pointsFrom
+from-in i none = refl
+from-in i (more h t) = rw (h i, from-in (suc i) t)
+
+-- 1 to 64 of them
+pub record Good (cs : List Coo3D) : Type 0 where
+  pub inside : Inside cs
+  pub some : 0 < length cs
+  pub few : length cs ≤ 64
+
+pub points-good : (cs : List Coo3D) → Good cs → pointsOf cs (length cs) ≡ answered cs
+unfolding pointsOf
+points-good cs g =
+    let s : 0 < length cs = g .some in
+    count-few (length cs) _ (λ (z : length cs ≡ 0). omega arith) (g .few) ∙ ap (pointsFrom 0) (take-length cs) ∙ from-in 0 (g .inside)
+
+-- points that are doubles, as a property of each
+pub each-double : (cs : List Coo3D) → areDoubles cs ≡ true → All (λ c. ofDoubles c ≡ true) cs
+unfolding areDoubles
+each-double [] h = none
+each-double (c ∷ cs) h = let d = both (ofDoubles c) (areDoubles cs) h in more (d .0) (each-double cs (d .1))
+
+pub all-doubles : {cs : List Coo3D} → All (λ c. ofDoubles c ≡ true) cs → areDoubles cs ≡ true
+unfolding areDoubles
+all-doubles none = refl
+all-doubles (more h t) = rw (h, all-doubles t)
+
+-- ---- from an answer
+
+-- each point of the second list is what the check makes of that of the first
+pub data HandedBack : List Coo3D → List Coo3D → Type 0 where
+  back-none : HandedBack [] []
+  back-more : {p q : Coo3D} {ps qs : List Coo3D} (i : ℕ) → pointAt i p ≡ answered q → HandedBack ps qs → HandedBack (p ∷ ps) (q ∷ qs)
+
+module _ (p : Coo3D) (ps : List Coo3D) (i : ℕ) (qs : List Coo3D) (rest : (rs : List Coo3D) → pointsFrom (suc i) ps ≡ answered rs → HandedBack ps rs) where
+  back-rest : (q : Coo3D) (x : Answer (List Coo3D)) → pointAt i p ≡ answered q → pointsFrom (suc i) ps ≡ x → andThen x (λ rs. answered (q ∷ rs)) ≡ answered qs → HandedBack (p ∷ ps) qs
+  back-rest q (answered rs) h f e = subst (HandedBack (p ∷ ps)) (same-answer e) (back-more i h (rest rs f))
+  back-rest q (refused n vs) h f e = never e
+
+  back-point : (x : Answer Coo3D) → pointAt i p ≡ x → andThen x (λ q. andThen (pointsFrom (suc i) ps) (λ rs. answered (q ∷ rs))) ≡ answered qs → HandedBack (p ∷ ps) qs
+  back-point (answered q) h e = back-rest q (pointsFrom (suc i) ps) h refl e
+  back-point (refused n vs) h e = never e
+
+back-from : (ps : List Coo3D) (i : ℕ) (qs : List Coo3D) → pointsFrom i ps ≡ answered qs → HandedBack ps qs
+unfolding pointsFrom
+back-from [] i qs e = subst (HandedBack []) (same-answer e) back-none
+back-from (p ∷ ps) i qs e = back-point p ps i qs (back-from ps (suc i)) (pointAt i p) refl e
+
+pub points-back : (ps : List Coo3D) (n : ℕ) (qs : List Coo3D) → pointsOf ps n ≡ answered qs → HandedBack (take n ps) qs
+unfolding pointsOf
+points-back ps n qs e = back-from (take n ps) 0 qs (count-passed n _ qs e)
+
+pub back-in : {ps qs : List Coo3D} → HandedBack ps qs → Inside qs
+back-in back-none = none
+back-in (back-more {p = p} {q = q} i e t) = more (handed-again i p q e) (back-in t)
+
+pub back-doubles : {ps qs : List Coo3D} → HandedBack ps qs → areDoubles ps ≡ true → areDoubles qs ≡ true
+unfolding areDoubles
+back-doubles back-none h = refl
+back-doubles (back-more {p = p} {q = q} {ps = ps} i e t) h =
+    let d = both (ofDoubles p) (areDoubles ps) h in
+    rw (handed-doubles i p q e (d .0), back-doubles t (d .1))
+
+-- the points as they were given
+pub back-same : {ps qs : List Coo3D} → HandedBack ps qs → qs ≡ ps
+back-same back-none = refl
+back-same (back-more {p = p} {q = q} i e t) = rw (handed-same i p q e, back-same t)
+
+-- ---- a point of the domain is finite
 
 pub record Finite (p : Coo3D) : Type 0 where
   pub x : isFinite (p .x) ≡ true
@@ -76,3 +117,6 @@ finite-inside p h =
     let d = both xy (isFinite (p .z)) (c .0) in
     let e = both (isFinite (p .x)) (isFinite (p .y)) (d .0) in
     record { x = e .0; y = e .1; z = d .1; lon = c .1; lat = b .1 }
+
+pub settled-finite : (p : Coo3D) → Settled p → Finite p
+settled-finite p h = finite-inside p (handed-in 0 p p (h 0))

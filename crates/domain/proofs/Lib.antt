@@ -1,3 +1,4 @@
 pub mod Counts
 pub mod Points
+pub mod Handed
 pub mod Inside

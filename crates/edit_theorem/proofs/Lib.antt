@@ -4,3 +4,4 @@ pub mod One
 pub mod Parity
 pub mod Turned
 pub mod Theorem
+pub mod Made

@@ -1,24 +1,27 @@
 -- The theorem over every list of edits, by induction on the list.
-use mathlib.Core.Path.{_≡_, refl, sym, ap, _∙_}
+use mathlib.Core.Path.{_≡_, refl, sym, ap, subst, _∙_}
 use mathlib.Core.Bool.{true}
 use mathlib.Core.List.{List}
 use lib.ListN.{length}
+use Rattle.crossings.specs.Crossings.{Lists}
+use Rattle.domain.proofs.Inside.{Good}
 use Rattle.great_circles.specs.Queries.{arcFirstOf, arcAllOf, isIntersectingArc, circleAllOf}
 use Rattle.parallels.specs.Queries.{parallelFirstOf, parallelAllOf, isIntersectingParallel}
-use Rattle.refusal.specs.Answer.{Answer, answered, refused, andThen, outcomeOf}
+use Rattle.refusal.specs.Answer.{Answer, answered, refused, andThen, outcomeOf, verdict}
 use Rattle.refusal.specs.declared.Cause.{Cause}
 use Rattle.refusal.specs.declared.Outcome.{Outcome}
 use Rattle.refusal.specs.declared.Outcome.the-variants.{Done, Refused}
 use Rattle.refusal.proofs.Answers.{never}
 use Rattle.region.specs.declared.Region.{Region}
+use Rattle.region.specs.declared.Built.{Built}
 use Rattle.region.specs.View.{View, viewOf, exactlyOne, contained}
-use Rattle.region.specs.Region.{containsOf}
+use Rattle.region.specs.Region.{buildOf, containsOf, regionBy, Builds}
 use Rattle.edits.specs.declared.EditAnswer.{EditAnswer}
 use Rattle.edits.specs.Edits.{Edit, Edited, changed, editOf}
 use Rattle.edit_theorem.specs.Record.{Plain, regionOf, edited, checkedBy, settled, after}
-use Rattle.edit_theorem.specs.Theorem.{Run, stop, step, Agrees, verdict, Turns, Holds, at-end, at-edit, EditTheorem}
+use Rattle.edit_theorem.specs.Theorem.{Run, stop, step, Agrees, Turns, Holds, at-end, at-edit, EditTheorem}
 use Rattle.edit_theorem.proofs.Legal.{Legal, legal}
-use Rattle.edit_theorem.proofs.Good.{Good, fresh-good, build-start, good-edited}
+use Rattle.edit_theorem.proofs.Good.{fresh-good, build-start, good-edited}
 use Rattle.edit_theorem.proofs.One.{changed-one}
 use Rattle.edit_theorem.proofs.Turned.{turned}
 
@@ -28,47 +31,47 @@ agrees s r g v =
       fresh = regionOf s;
       built = fresh-good s g;
       view = v;
-      contains = λ p. ap (λ (w : View). containsOf w p) v;
-      arcFirst = λ a b. ap (λ (w : View). arcFirstOf w a b) v;
-      arcAll = λ a b. ap (λ (w : View). arcAllOf w a b) v;
-      arcIs = λ a b. ap (λ (w : View). isIntersectingArc w a b) v;
-      circle = λ n. ap (λ (w : View). circleAllOf w n) v;
-      parallelFirst = λ lat sin cos. ap (λ (w : View). parallelFirstOf w lat sin cos) v;
-      parallelAll = λ lat sin cos. ap (λ (w : View). parallelAllOf w lat sin cos) v;
-      parallelIs = λ lat sin cos. ap (λ (w : View). isIntersectingParallel w lat sin cos) v;
+      contains = λ p d h. h ∙ ap (λ (w : View). containsOf w p) v;
+      arcFirst = λ a b f h. h ∙ ap (λ (w : View). arcFirstOf w a b) v;
+      arcAll = λ a b l h. subst (λ (w : View). Lists l (arcAllOf w a b)) v h;
+      arcIs = λ a b d h. h ∙ ap (λ (w : View). isIntersectingArc w a b) v;
+      circle = λ n l h. subst (λ (w : View). Lists l (circleAllOf w n)) v h;
+      parallelFirst = λ lat sin cos f h. h ∙ ap (λ (w : View). parallelFirstOf w lat sin cos) v;
+      parallelAll = λ lat sin cos l h. subst (λ (w : View). Lists l (parallelAllOf w lat sin cos)) v h;
+      parallelIs = λ lat sin cos d h. h ∙ ap (λ (w : View). isIntersectingParallel w lat sin cos) v;
     }
 
 -- ---- one edit
 
 -- what an answer of the table makes of the record `s` and of the view `w` that follows, with the outcome `o`
-record Stepped (s : Plain) (x : Answer Edit) (o : Outcome) (w : View) : Type 0 where
-  outcome : outcomeOf o true ≡ verdict x
-  good : Good (settled x s .corners)
-  view : w ≡ regionOf (settled x s)
+pub record Stepped (s : Plain) (x : Answer Edit) (o : Outcome) (w : View) : Type 0 where
+  pub outcome : outcomeOf o true ≡ verdict x
+  pub good : Good (settled x s .corners)
+  pub view : w ≡ regionOf (settled x s)
 
 module _ (s : Plain) (e : Edit) (w : View) (good : Good (s .corners)) where
   stepped : (x : Answer Edit) (o : Outcome) → checkedBy s e ≡ x → outcomeOf o w ≡ andThen x (λ k. answered (changed k (regionOf s)))
       → ((cause : Cause) → o ≡ Refused cause → w ≡ regionOf s) → Stepped s x o w
   stepped (answered k) Done p a kept =
-      let l : Legal (length (s .corners)) k = legal (length (s .corners)) k e p in
+      let l : Legal (length (s .corners)) e k = legal (length (s .corners)) k e p in
       let q : w ≡ changed k (regionOf s) = cc a in
-      record { outcome = refl; good = good-edited k s l good; view = q ∙ changed-one k s l }
+      record { outcome = refl; good = good-edited e k s l good; view = q ∙ changed-one e k s l }
   stepped (answered k) (Refused cause) p a kept = never a
   stepped (refused n vs) Done p a kept = never (sym a)
   stepped (refused n vs) (Refused cause) p a kept = record { outcome = cc a; good = good; view = kept cause refl }
 
 module _ (s : Plain) (e : Edit) (r : Region) (a : EditAnswer) (good : Good (s .corners)) (v : viewOf r ≡ regionOf s) (h : Edited e r a) where
-  step-of : Stepped s (checkedBy s e) (a .outcome) (viewOf (a .region))
+  pub step-of : Stepped s (checkedBy s e) (a .outcome) (viewOf (a .region))
   unfolding editOf
   step-of = stepped s e (viewOf (a .region)) good (checkedBy s e) (a .outcome) refl (h .answer ∙ ap (editOf e) v) (λ cause q. ap viewOf (h .kept cause q) ∙ v)
 
   turns : (k : Edit) → checkedBy s e ≡ answered k → Turns k s r (a .region)
-  turns k p m x d =
-      let l : Legal (length (s .corners)) k = legal (length (s .corners)) k e p in
+  turns k p m x q d =
+      let l : Legal (length (s .corners)) e k = legal (length (s .corners)) k e p in
       let w : viewOf (a .region) ≡ regionOf (edited k s) = step-of .view ∙ ap (λ (y : Answer Edit). regionOf (settled y s)) p in
-      ap (λ (u : View). exactlyOne (contained x u) (contained x (viewOf r))) w
-      ∙ ap (λ (u : View). exactlyOne (contained x (regionOf (edited k s))) (contained x u)) v
-      ∙ turned x k s l (good .some) m
+      ap (λ (u : View). exactlyOne (contained q u) (contained q (viewOf r))) w
+      ∙ ap (λ (u : View). exactlyOne (contained q (regionOf (edited k s))) (contained q u)) v
+      ∙ turned q e k s l (good .some) m
 
 -- ---- every list
 
@@ -78,7 +81,12 @@ holds s (step {r = r} {e = e} a h rest) g v =
     let n = step-of s e r a g v h in
     at-edit a h rest (agrees s r g v) (n .outcome) (turns s e r a g v h) (holds (after e s) rest (n .good) (n .view))
 
+-- a build that is done answers its view
+built-view : (a : Answer View) (b : Built) → Builds b a → b .outcome ≡ Done → a ≡ answered (viewOf (b .region))
+built-view (answered v) b h done = ap answered (sym (h .view))
+built-view (refused n vs) b h done = never (sym (h .outcome) ∙ ap (λ (o : Outcome). outcomeOf o (regionBy (refused n vs))) done)
+
 pub edit-theorem : EditTheorem
 edit-theorem points count rule b built done es last run =
-    let t = build-start points count rule (viewOf (b .region)) (sym built ∙ ap (λ (o : Outcome). outcomeOf o (viewOf (b .region))) done) in
+    let t = build-start points count rule (viewOf (b .region)) (built-view (buildOf points count rule) b built done) in
     (t .plain, (t .starts, holds (t .plain) run (t .good) (t .view)))

@@ -82,12 +82,12 @@ module _ (x : Coo3D) where
   never-moves : {B : Type 0} → false ≡ true → B
   never-moves e = absurd (let z : _≡_ {A = ℕ} 0 1 = cc e in omega arith)
 
-  pub turned : (k : Edit) (s : Plain) → Legal (length (s .corners)) k → 0 < length (s .corners) → movesCorner k ≡ true
+  pub turned : (e k : Edit) (s : Plain) → Legal (length (s .corners)) e k → 0 < length (s .corners) → movesCorner k ≡ true
       → exactlyOne (contained x (regionOf (edited k s))) (contained x (regionOf s)) ≡ oddMany (isCounted x) (takenOut k (s .corners) ++ broughtIn k (s .corners))
   unfolding edited
-  turned k s (legal-put {i = i} {q = q} h d) some m = contained-turns (s .corners) (set (s .corners) i q) (s .flag) ∙ put-turns (s .corners) i q h
-  turned k s (legal-insert {i = i} {q = q} h l d) some m = contained-turns (s .corners) (ins i q (s .corners)) (s .flag) ∙ ins-turns (s .corners) i q h some
-  turned k s (legal-remove {i = i} h two) some m = contained-turns (s .corners) (del i (s .corners)) (s .flag) ∙ del-turns (s .corners) i h two
-  turned k s legal-turn some m = never-moves m
-  turned k s legal-hold some m = never-moves m
-  turned k s legal-rule some m = never-moves m
+  turned e k s (legal-put {i = i} {q = q} h d) some m = contained-turns (s .corners) (set (s .corners) i q) (s .flag) ∙ put-turns (s .corners) i q h
+  turned e k s (legal-insert {i = i} {q = q} h l d) some m = contained-turns (s .corners) (ins i q (s .corners)) (s .flag) ∙ ins-turns (s .corners) i q h some
+  turned e k s (legal-remove {i = i} h two) some m = contained-turns (s .corners) (del i (s .corners)) (s .flag) ∙ del-turns (s .corners) i h two
+  turned e k s legal-turn some m = never-moves m
+  turned e k s (legal-hold d) some m = never-moves m
+  turned e k s (legal-rule d) some m = never-moves m

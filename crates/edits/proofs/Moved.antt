@@ -10,10 +10,11 @@ use lib.Seq.{getD-take, length-take-le, take-set-lt}
 use Rattle.coo3d.specs.declared.Coo3D.{Coo3D}
 use Rattle.coo3d.specs.declared.Vect3.{Vect3}
 use Rattle.lists.specs.Cyclic.{ins, del, prevOf, nextOf, thereOf, beforeOf, insAlong, delAlong}
+use Rattle.lists.proofs.Cyclic.{length-ins, length-del}
 use Rattle.lists.proofs.Shifts.{halves, started, moved, finished, raised-at, filled}
 use Rattle.region.specs.declared.Region.{Region}
 use Rattle.region.specs.Edges.{normalOf}
-use Rattle.region.specs.View.{View, viewOf, nowhere}
+use Rattle.region.specs.View.{View, viewOf, withCorners, nowhere}
 use Rattle.region.proofs.Edges.{last-take, nothing}
 use Rattle.edits.specs.Edits.{insert, remove, changed}
 
@@ -24,12 +25,12 @@ read-at vs cs m j h e = sym (getD-take m vs j nowhere h) ∙ ap (λ (l : List Co
 stored-at : (ns os : List Vect3) (m j : ℕ) (n : Vect3) → j < m → take m ns ≡ os → take m (set ns j n) ≡ set os j n
 stored-at ns os m j n h e = take-set-lt m ns j n h ∙ ap (λ (l : List Vect3). set l j n) e
 
-view-is : (n : ℕ) (cs cs' : List Coo3D) (ns ns' : List Vect3) (f : Bool) → cs ≡ cs' → ns ≡ ns'
-    → _≡_ {A = View} (record { count = n; corners = cs; normals = ns; flag = f }) (record { count = n; corners = cs'; normals = ns'; flag = f })
-view-is n cs cs' ns ns' f e h = rw (e, h)
-
-abbrev used : ℕ → List Coo3D → List Vect3 → Bool → View
+-- the entries in use, as a view
+abbrev pub used : ℕ → List Coo3D → List Vect3 → Bool → View
 used n vs ns f = record { count = n; corners = take n vs; normals = take n ns; flag = f }
+
+pub corners-are : (v : View) (n : ℕ) (vs cs : List Coo3D) (ns os : List Vect3) → take n vs ≡ cs → take n ns ≡ os → n ≡ length cs → used n vs ns (v .flag) ≡ withCorners v cs os
+corners-are v n vs cs ns os e h l = ap (λ (x : List Coo3D). record { count = n; corners = x; normals = take n ns; flag = v .flag }) e ∙ ap (λ (x : List Vect3). record { count = n; corners = cs; normals = x; flag = v .flag }) h ∙ ap (λ (x : ℕ). record { count = x; corners = cs; normals = os; flag = v .flag }) l
 
 -- the arrays before and after, the place written last, and the corner before i
 module _ (vs vs' : List Coo3D) (ns ns' : List Vect3) (n i j : ℕ) (f : Bool) (from : Coo3D) where
@@ -39,19 +40,23 @@ module _ (vs vs' : List Coo3D) (ns ns' : List Vect3) (n i j : ℕ) (f : Bool) (f
   unfolding changed insAlong
   view-inserted p first second long hf hj below hv h1 h2 hn =
       let len : length (take n vs) ≡ n = length-take-le n vs long in
-      view-is (n + 1) _ _ _ _ f hv
+      let more = length-ins i p (take n vs) in
+      corners-are (used n vs ns f) (n + 1) vs' _ (set ns' j second) _ hv
       (stored-at ns' _ (n + 1) j second below hn
       ∙ rw (h2, read-at vs' _ (n + 1) j below hv, h1, hf, len, hj))
+      (omega (arith, more, len))
 
-  pub view-removed : (closing : Vect3) → n ≤ length vs → from ≡ beforeOf nowhere (take n vs) i → j ≡ thereOf n i → j < n - 1
+  pub view-removed : (closing : Vect3) → n ≤ length vs → i < n → from ≡ beforeOf nowhere (take n vs) i → j ≡ thereOf n i → j < n - 1
       → take (n - 1) vs' ≡ del i (take n vs) → closing ≡ normalOf from (getD vs' j nowhere) → take (n - 1) ns' ≡ del i (take n ns)
       → used (n - 1) vs' (set ns' j closing) f ≡ changed (remove i) (used n vs ns f)
   unfolding changed delAlong
-  view-removed closing long hf hj below hv h2 hn =
+  view-removed closing long there hf hj below hv h2 hn =
       let len : length (take n vs) ≡ n = length-take-le n vs long in
-      view-is (n - 1) _ _ _ _ f hv
+      let fewer = length-del i (take n vs) (rw len there) in
+      corners-are (used n vs ns f) (n - 1) vs' _ (set ns' j closing) _ hv
       (stored-at ns' _ (n - 1) j closing below hn
       ∙ rw (h2, read-at vs' _ (n - 1) j below hv, hf, len, hj))
+      (omega (arith, fewer, len))
 
 -- ---- the corner before i, read from the array
 
@@ -146,11 +151,11 @@ module _ {A : Type 0} (d : A) where
 
 pub removed : {r one o : Region} {i k m : ℕ} → CornersMove (λ l. Closing nowhere (r .count) i (r .vertices) l k) r one → r .count ≤ k + 1 → NormalsMove (λ l. Closing nothing (r .count) i (one .«cross_products») l m) one o → r .count ≤ m + 1
     → r .count ≤ 64 → (j : ℕ) (from : Coo3D) (closing : Vect3) → r .count ≤ length (r .vertices)
-    → from ≡ beforeOf nowhere (take (r .count) (r .vertices)) i → j ≡ thereOf (r .count) i → j < r .count - 1 → closing ≡ normalOf from (getD (o .vertices) j nowhere)
+    → from ≡ beforeOf nowhere (take (r .count) (r .vertices)) i → j ≡ thereOf (r .count) i → j < r .count - 1 → i < r .count → closing ≡ normalOf from (getD (o .vertices) j nowhere)
     → used (r .count - 1) (o .vertices) (set (o .«cross_products») j closing) (o .«contains_south_pole») ≡ changed (remove i) (viewOf r)
-removed {r} {one} {o} {i} cs past ns also few j from closing long hf hj below h =
+removed {r} {one} {o} {i} cs past ns also few j from closing long hf hj below there h =
     let n = r .count in
     let vertices : take (n - 1) (o .vertices) ≡ del i (take n (r .vertices)) = ap (λ (l : List Coo3D). take (n - 1) l) (ns .corners) ∙ closed nowhere (cs .corners) past few in
     let normals : take (n - 1) (o .«cross_products») ≡ del i (take n (r .«cross_products»)) = closed nothing (ns .normals) also few ∙ ap (λ (l : List Vect3). del i (take n l)) (cs .normals) in
     ap (used (n - 1) (o .vertices) (set (o .«cross_products») j closing)) (ns .flag ∙ cs .flag)
-    ∙ view-removed (r .vertices) (o .vertices) (r .«cross_products») (o .«cross_products») n i j (r .«contains_south_pole») from closing long hf hj below vertices h normals
+    ∙ view-removed (r .vertices) (o .vertices) (r .«cross_products») (o .«cross_products») n i j (r .«contains_south_pole») from closing long there hf hj below vertices h normals

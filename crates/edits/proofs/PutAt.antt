@@ -4,17 +4,15 @@ use native.Mathlib.Omega.{arith}
 use mathlib.Core.Path.{_≡_, sym, ap, _∙_}
 use mathlib.Core.Bool.{Bool}
 use mathlib.Core.List.{List}
-use lib.ListN.{length, take, getD, set}
+use lib.ListN.{length, take, getD, set, length-set}
 use lib.Seq.{take-set-lt, length-take-le, getD-take, getD-set-same, set-set}
 use Rattle.coo3d.specs.declared.Coo3D.{Coo3D}
 use Rattle.coo3d.specs.declared.Vect3.{Vect3}
 use Rattle.lists.specs.Cyclic.{nextOf, beforeOf, putAlong}
 use Rattle.region.specs.Edges.{normalOf}
-use Rattle.region.specs.View.{View, nowhere}
+use Rattle.region.specs.View.{nowhere}
 use Rattle.edits.specs.Edits.{changed, put}
-
-abbrev seen : ℕ → List Coo3D → List Vect3 → Bool → View
-seen n vs ns flag = record { count = n; corners = take n vs; normals = take n ns; flag = flag }
+use Rattle.edits.proofs.Moved.{used, corners-are}
 
 module _ (n : ℕ) (vs : List Coo3D) (ns : List Vect3) (i j : ℕ) (p : Coo3D) (h : i < n) (long : n ≤ length vs) (e : j ≡ nextOf n i) (below : j < n) where
   -- the corner after i, among the corners below the count
@@ -25,17 +23,22 @@ module _ (n : ℕ) (vs : List Coo3D) (ns : List Vect3) (i j : ℕ) (p : Coo3D) (
   unfolding putAlong
   normals-are = rw (length-take-le n vs long, ← e, to-is)
 
+  counted : n ≡ length (set (take n vs) i p)
+  counted = sym (length-set (take n vs) i p ∙ length-take-le n vs long)
+
   pub put-two : (flag : Bool) (from : Coo3D) (first second : Vect3)
       → from ≡ beforeOf nowhere (take n vs) i
       → first ≡ normalOf from p
       → second ≡ normalOf p (getD (set vs i p) j nowhere)
-      → seen n (set vs i p) (set (set ns i first) j second) flag ≡ changed (put i p) (seen n vs ns flag)
+      → used n (set vs i p) (set (set ns i first) j second) flag ≡ changed (put i p) (used n vs ns flag)
   unfolding changed
   put-two flag from first second ef e1 e2 =
-      rw (take-set-lt n vs i p h, take-set-lt n (set ns i first) j second below, take-set-lt n ns i first h, e1, e2, ef, normals-are)
+      corners-are (used n vs ns flag) n (set vs i p) _ (set (set ns i first) j second) _ (take-set-lt n vs i p h)
+      (rw (take-set-lt n (set ns i first) j second below, take-set-lt n ns i first h, e1, e2, ef, normals-are))
+      counted
 
   -- of one corner the two edges are the same one
-  pub put-only : (flag : Bool) (only : Vect3) → n ≡ 1 → only ≡ normalOf p p → seen n (set vs i p) (set ns i only) flag ≡ changed (put i p) (seen n vs ns flag)
+  pub put-only : (flag : Bool) (only : Vect3) → n ≡ 1 → only ≡ normalOf p p → used n (set vs i p) (set ns i only) flag ≡ changed (put i p) (used n vs ns flag)
   unfolding changed
   put-only flag only one eo =
       let same : j ≡ i = omega arith in
@@ -45,4 +48,4 @@ module _ (n : ℕ) (vs : List Coo3D) (ns : List Vect3) (i j : ℕ) (p : Coo3D) (
       ∙ ap (λ (c : Coo3D). set (set (take n ns) i (normalOf (beforeOf nowhere (take n vs) i) p)) i (normalOf p c)) (sym (getD-set-same vs i p nowhere at))
       ∙ ap (λ (k : ℕ). set (set (take n ns) i (normalOf (beforeOf nowhere (take n vs) i) p)) k (normalOf p (getD (set vs i p) k nowhere))) (sym same)
       ∙ normals-are in
-      rw (take-set-lt n vs i p h, take-set-lt n ns i only h, eo, twice)
+      corners-are (used n vs ns flag) n (set vs i p) _ (set ns i only) _ (take-set-lt n vs i p h) (rw (take-set-lt n ns i only h, eo) twice) counted

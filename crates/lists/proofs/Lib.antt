@@ -1,3 +1,4 @@
 pub mod Passing
 pub mod Cyclic
 pub mod Shifts
+pub mod All

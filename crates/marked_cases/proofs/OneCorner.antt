@@ -3,7 +3,8 @@ use mathlib.Core.Path.{_≡_, refl, sym, _∙_}
 use mathlib.Core.Bool.{Bool, true, false, and-false}
 use Rattle.coo3d.specs.declared.Coo3D.{Coo3D}
 use Rattle.domain.specs.Domain.{inDomain}
-use Rattle.domain.specs.Checks.{pointAt, pointsFrom, pointsOf}
+use Rattle.domain.specs.Checks.{pointsFrom, pointsOf}
+use Rattle.domain.proofs.Handed.{handed}
 use Rattle.float.specs.Doubles.{isFinite}
 use Rattle.lists.specs.Cyclic.{lastOf, along}
 use Rattle.refusal.specs.Answer.{answered}
@@ -23,5 +24,8 @@ lon-finite c h = go (isFinite (c .lon)) refl
     go false e = let n : inDomain c ≡ false = simp (e, and-false) in sym n ∙ h
 
 pub one-corner : (c p : Coo3D) → inDomain c ≡ true → inDomain p ≡ true → contains (oneCorner c) p ≡ answered true
-unfolding buildOf pointsOf pointsFrom pointAt flagOf ruleAt ruleFlag containsOf contained oddAt oddMany edgesOf edgesFrom normalsOf along lastOf isCounted
-one-corner c p inC inP = rw (inC, inP, equal-never (p .lon) (c .lon) (lon-finite c inC))
+unfolding buildOf pointsOf pointsFrom flagOf ruleAt ruleFlag containsOf contained oddAt oddMany edgesOf edgesFrom normalsOf along lastOf isCounted
+one-corner c p inC inP =
+    let d = handed c inC in
+    let q = handed p inP in
+    rw (d .answer 0, q .answer 0, equal-never (q .point .lon) (d .point .lon) (lon-finite (d .point) (d .inside)))

@@ -58,7 +58,7 @@ minusOneAndHalf = ofBits binary64 0xBFF8_0000_0000_0000
 abbrev pub point : Float → Float → Float → Float → Float → Coo3D
 point x y z lon lat = record { x = x; y = y; z = z; lon = lon; lat = lat }
 
--- S has corners (1,0,0;0,0), (0,1,0;1.5,0), (−1,0,0;3,0), (0,−1,0;4.5,0), rule Default
+-- S has corners (1,0,0;0,0), (0,1,0;1.5,0), (−1,0,0;3,0), (0,−1,0;4.5,0), rule Default: buildOf corners 4 Default
 abbrev pub corners : List Coo3D
 corners =
     point one nought nought nought nought
@@ -66,9 +66,6 @@ corners =
     ∷ point minusOne nought nought three nought
     ∷ point nought minusOne nought fourAndHalf nought
     ∷ []
-
-abbrev pub S : Answer View
-S = buildOf corners 4 Default
 
 -- case 7's: one corner, flag set
 abbrev pub oneCorner : Coo3D → Answer View
@@ -103,26 +100,27 @@ allAt region lat sin cos = andThen region (λ v. parallelAllOf v lat sin cos)
 
 -- ---- the cases
 
-pub record MarkedCases : Type 0 where
+-- of S, which is what the build answers
+pub record MarkedCases (s : Answer View) : Type 0 where
   -- 1. S: flag clear.
-  pub flag-clear : S ≡ answered (made corners false)
+  pub flag-clear : s ≡ answered (made corners false)
   -- 2. (0,0,1;0,1.5): contained.
-  pub north-in : contains S (point nought nought one nought oneAndHalf) ≡ answered true
+  pub north-in : contains s (point nought nought one nought oneAndHalf) ≡ answered true
   -- 3. (0,0,−1;0,−1.5): not.
-  pub south-out : contains S (point nought nought minusOne nought minusOneAndHalf) ≡ answered false
+  pub south-out : contains s (point nought nought minusOne nought minusOneAndHalf) ≡ answered false
   -- 4. (1,0,0;0,0): not; dot product 0. Edge 1 is in range, so it is the 0 that leaves it out.
   pub corner-out :
-      (contains S (point one nought nought nought nought) ≡ answered false)
-      × (rangesAt S (point one nought nought nought nought) ≡ answered (false ∷ true ∷ false ∷ false ∷ []))
-      × (dotsAt S (point one nought nought nought nought) ≡ answered (nought ∷ nought ∷ nought ∷ nought ∷ []))
+      (contains s (point one nought nought nought nought) ≡ answered false)
+      × (rangesAt s (point one nought nought nought nought) ≡ answered (false ∷ true ∷ false ∷ false ∷ []))
+      × (dotsAt s (point one nought nought nought nought) ≡ answered (nought ∷ nought ∷ nought ∷ nought ∷ []))
   -- 5. (0,0.5,0.5;1.5,0.5): contained; edge 2 alone counts.
   pub edge-2-alone :
-      (contains S (point nought half half oneAndHalf half) ≡ answered true)
-      × (countsAt S (point nought half half oneAndHalf half) ≡ answered (false ∷ false ∷ true ∷ false ∷ []))
+      (contains s (point nought half half oneAndHalf half) ≡ answered true)
+      × (countsAt s (point nought half half oneAndHalf half) ≡ answered (false ∷ false ∷ true ∷ false ∷ []))
   -- 6. Put (0,1,1;1.5,0.5) at 1: (0.5,0.5,0.25;0.75,0.3) goes from contained to not.
   pub put-takes-out :
-      (contains S (point half half quarter threeQuarters threeTenths) ≡ answered true)
-      × (contains (andThen S (editOf (put 1 (point nought one one oneAndHalf half)))) (point half half quarter threeQuarters threeTenths) ≡ answered false)
+      (contains s (point half half quarter threeQuarters threeTenths) ≡ answered true)
+      × (contains (andThen s (editOf (put 1 (point nought one one oneAndHalf half)))) (point half half quarter threeQuarters threeTenths) ≡ answered false)
   -- 7. One corner, flag set: all contained. Any corner and any point of the domain.
   pub one-corner : (c p : Coo3D) → inDomain c ≡ true → inDomain p ≡ true → contains (oneCorner c) p ≡ answered true
   -- 8. Longitudes 0 to PI: in range at 1, not at 4.
@@ -130,10 +128,10 @@ pub record MarkedCases : Type 0 where
   -- 9. Longitudes 0 to 4: in range at 4, not at 3.
   pub over-the-seam : (inLonRange four nought four ≡ true) × (inLonRange three nought four ≡ false)
   -- 10. S at latitude 0, sine 0, cosine 1: no crossing (half-open).
-  pub equator-none : (firstAt S nought nought one ≡ answered []) × (allAt S nought nought one ≡ answered [])
+  pub equator-none : (firstAt s nought nought one ≡ answered []) × (allAt s nought nought one ≡ answered [])
   -- 11. Corners (1,0,0;0,0), (0,0,1;0,1.5); latitude 0.5, sine 0.5, cosine 0.75: first crossing (0.75, −0, 0.5).
   pub first-crossing : firstAt quarterArc half half threeQuarters ≡ answered (record { x = threeQuarters; y = minusNought; z = half } ∷ [])
   -- 12. Root of 2^−1074 is 2^−537; of −0, −0.
   pub roots : (sqrtOf (ofBits binary64 1) ≡ ofBits binary64 0x1E60_0000_0000_0000) × (sqrtOf minusNought ≡ minusNought)
   -- 13. S's trailer: 01 00 00 00 00 00 00 00 04 00 00 00 B0 00 00 00. It follows the four corners' 160 bytes.
-  pub trailer : andThen S (λ v. answered (drop 160 (fileOf v))) ≡ answered (1 ∷ 0 ∷ 0 ∷ 0 ∷ 0 ∷ 0 ∷ 0 ∷ 0 ∷ 4 ∷ 0 ∷ 0 ∷ 0 ∷ 0xB0 ∷ 0 ∷ 0 ∷ 0 ∷ [])
+  pub trailer : andThen s (λ v. answered (drop 160 (fileOf v))) ≡ answered (1 ∷ 0 ∷ 0 ∷ 0 ∷ 0 ∷ 0 ∷ 0 ∷ 0 ∷ 4 ∷ 0 ∷ 0 ∷ 0 ∷ 0xB0 ∷ 0 ∷ 0 ∷ 0 ∷ [])

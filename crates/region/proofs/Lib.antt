@@ -5,4 +5,5 @@ pub mod Corners
 pub mod Odd
 pub mod Flags
 pub mod Builds
+pub mod Made
 pub mod Building

@@ -4,3 +4,4 @@ pub mod Reading
 pub mod Writing
 pub mod Back
 pub mod RoundTrips
+pub mod Made

@@ -11,18 +11,20 @@ use lib.ListN.{length, take, drop, length-append, length-drop, take-append-drop}
 use lib.Pow.{areBytes}
 use lib.Seq.{drop-append-add, drop-append-seam, drop-drop, take-add, take-all}
 use Rattle.coo3d.specs.declared.Coo3D.{Coo3D}
-use Rattle.domain.proofs.Inside.{Inside, more, both, Finite, finite-inside}
+use Rattle.coo3d.specs.Points.{ofDoubles, areDoubles}
+use Rattle.domain.proofs.Inside.{Inside, both, Finite, settled-finite, points-back, back-in, back-same}
 use Rattle.float.specs.Doubles.{isFinite}
+use Rattle.lists.proofs.All.{more}
 use Rattle.refusal.specs.Answer.{Answer, answered, refused, andThen}
 use Rattle.refusal.proofs.Answers.{never}
 use Rattle.region.specs.View.{View, made}
 use Rattle.region.specs.Poles.{fixedRule}
 use Rattle.region.specs.Region.{buildOf}
-use Rattle.region.proofs.Builds.{build-fixed}
+use Rattle.region.proofs.Builds.{build-answered, built-fixed}
 use Rattle.region_file.specs.declared.Trailer.{Trailer}
 use Rattle.region_file.specs.Bytes.{bytesOf, numberAt, doubleAt, cornerAt, cornersAt, doubleBytes, cornerBytes, cornersBytes}
 use Rattle.region_file.specs.File.{fileLength, trailerOf, readOf, trailerBytes, fileOf}
-use Rattle.region_file.specs.RoundTrips.{areDoubles, ReadWritten, WriteRead}
+use Rattle.region_file.specs.RoundTrips.{ReadWritten, WriteRead}
 use Rattle.region_file.proofs.Back.{number-bytes, bytes-at, double-written, double-read}
 use Rattle.region_file.proofs.Reading.{length-corners}
 use Rattle.region_file.proofs.Trailers.{Accepted, accepted, fields, good}
@@ -58,7 +60,7 @@ corners-back : (cs : List Coo3D) (p t : List ℕ) → areDoubles cs ≡ true →
 unfolding areDoubles cornersAt cornersBytes
 corners-back [] p t h = refl
 corners-back (c ∷ cs) p t h =
-    let a = both (fits binary64 (c .x) && fits binary64 (c .y) && fits binary64 (c .z) && fits binary64 (c .lon) && fits binary64 (c .lat)) (areDoubles cs) h in
+    let a = both (ofDoubles c) (areDoubles cs) h in
     let b = both (fits binary64 (c .x) && fits binary64 (c .y) && fits binary64 (c .z) && fits binary64 (c .lon)) (fits binary64 (c .lat)) (a .0) in
     let d = both (fits binary64 (c .x) && fits binary64 (c .y) && fits binary64 (c .z)) (fits binary64 (c .lon)) (b .0) in
     let e = both (fits binary64 (c .x) && fits binary64 (c .y)) (fits binary64 (c .z)) (d .0) in
@@ -136,12 +138,12 @@ module _ (s : List ℕ) (bytes : areBytes s ≡ true) where
   corners-kept : (n at : ℕ) → at + 40 * n ≤ length s → Inside (cornersAt s at n) → cornersBytes (cornersAt s at n) ++ drop (at + 40 * n) s ≡ drop at s
   unfolding cornersAt cornersBytes
   corners-kept zero at h t = let e : at + 40 * 0 ≡ at = omega arith in rw e
-  corners-kept (suc n) at h (more {c = c} inside t) =
+  corners-kept (suc n) at h (more settled t) =
       let e : at + 40 * suc n ≡ at + 40 + 40 * n = omega arith in
       let room : at + 40 + 40 * n ≤ length s = omega (arith, h) in
       let one : at + 40 ≤ length s = omega (arith, h) in
       append-assoc (cornerBytes (cornerAt s at)) (cornersBytes (cornersAt s (at + 40) n)) (drop (at + 40 * suc n) s)
-      ∙ rw (e, corners-kept n (at + 40) room t, corner-kept at one (finite-inside (cornerAt s at) inside))
+      ∙ rw (e, corners-kept n (at + 40) room t, corner-kept at one (settled-finite (cornerAt s at) settled))
       (ap (λ (r : List ℕ). take 40 (drop at s) ++ r) (sym (drop-drop 40 at s)) ∙ take-append-drop 40 (drop at s))
 
   field-kept : (at k : ℕ) → at + k + 4 ≤ length s → bytesOf 4 (numberAt 4 s (at + k)) ≡ take 4 (drop k (drop at s))
@@ -184,12 +186,14 @@ module _ (s : List ℕ) (bytes : areBytes s ≡ true) where
         let cs = cornersAt s at n in
         let whole = a .whole in
         let all : take n cs ≡ cs = take-all n cs (le-of-eq (length-corners s at n)) in
-        let built = build-fixed cs n (t .flag) v e in
-        let view : v ≡ made cs (t .flag) = built .0 ∙ ap (λ (x : List Coo3D). made x (t .flag)) all in
+        let built = build-answered cs n (fixedRule (t .flag)) v e in
+        let back = points-back cs n (built .corners) (built .taken) in
+        let same : built .corners ≡ cs = back-same back ∙ all in
+        let view : v ≡ made cs (t .flag) = built-fixed built ∙ ap (λ (x : List Coo3D). made x (t .flag)) same in
         let count : length cs ≡ n = length-corners s at n in
         let end : length s - 16 ≡ at + 40 * n = omega (arith, whole) in
         let room : at + 40 * n ≤ length s = omega (arith, whole) in
-        rw (view, count, trailer-kept t a, end) (corners-kept n at room (subst Inside all (built .1)))
+        rw (view, count, trailer-kept t a, end) (corners-kept n at room (subst Inside same (back-in back)))
 
     by-trailer : (x : Answer Trailer) → trailerOf s ≡ x → andThen x (λ t. buildOf (cornersAt s (length s - fileLength (t .count)) (t .count)) (t .count) (fixedRule (t .flag))) ≡ answered v
         → fileOf v ≡ drop (length s - fileLength (v .count)) s

@@ -1,21 +1,16 @@
 -- The region file read back, and written back. Bytes are numbers below 256, and a corner's five numbers doubles, as the code's types have them.
 use Prim.Native.Nat.{ℕ, _-_, _≤_, _<_}
 use mathlib.Core.Path.{_≡_}
-use mathlib.Core.Bool.{Bool, true, _&&_}
-use mathlib.Core.List.{List, [], _∷_, _++_}
-use lib.Ieee.{binary64, fits}
+use mathlib.Core.Bool.{true}
+use mathlib.Core.List.{List, _++_}
 use lib.ListN.{length, drop}
 use lib.Pow.{areBytes}
-use Rattle.coo3d.specs.declared.Coo3D.{Coo3D}
+use Rattle.coo3d.specs.Points.{areDoubles}
 use Rattle.refusal.specs.Answer.{answered}
 use Rattle.region.specs.View.{View}
 use Rattle.region.specs.Poles.{fixedRule}
 use Rattle.region.specs.Region.{buildOf}
 use Rattle.region_file.specs.File.{fileLength, fileOf, readOf}
-
-unfoldable pub areDoubles : List Coo3D → Bool
-areDoubles [] = true
-areDoubles (c ∷ cs) = fits binary64 (c .x) && fits binary64 (c .y) && fits binary64 (c .z) && fits binary64 (c .lon) && fits binary64 (c .lat) && areDoubles cs
 
 -- reading what was written, whatever bytes stand in front, gives the region built afresh from its corners and flag
 abbrev pub ReadWritten : Type 0

@@ -139,7 +139,7 @@ returns-2 c =
     let full = long s (search needs) in
     let from = before-at (a .r .vertices) (a .r .count) (a .i) _ (search needs) (search needs) full (c .before .before .before .before .before .before .before .index-before .ensures .0) in
     let told = sym (ap (λ o. outcomeOf o (remove (a .i))) (sym (c .before .before .before .before .before .before .before .before .before .enum-told .given .1)) ∙ c .before .before .before .before .before .before .before .before .before .before .before .removable .ensures .0) in
-    done-edit _ _ _ refl (done-by _ _ _ _ told (removed (c .before .before .before .before .before .loop .inv) (search needs) (c .before .before .before .loop2 .inv) (search needs) (search needs) _ _ _ full from (there .ensures .0) (there .ensures .1 .0) (c .edge-normal .ensures)))
+    done-edit _ _ _ refl (done-by _ _ _ _ told (removed (c .before .before .before .before .before .loop .inv) (search needs) (c .before .before .before .loop2 .inv) (search needs) (search needs) _ _ _ full from (there .ensures .0) (there .ensures .1 .0) (there .ensures .1 .1 .0) (c .edge-normal .ensures)))
 
 pub remove-spec : {M : Type 1} → statement M
 remove-spec =

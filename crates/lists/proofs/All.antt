@@ -1,0 +1,27 @@
+-- Lists whose elements all have a property, and what an edit of the list keeps of it.
+use Prim.Native.Nat.{ℕ, zero, suc}
+use mathlib.Core.List.{List, [], _∷_}
+use lib.ListN.{set}
+use Rattle.lists.specs.Cyclic.{ins, del}
+
+pub data All {A : Type 0} (P : A → Type 0) : List A → Type 0 where
+  none : All P []
+  more : {a : A} {l : List A} → P a → All P l → All P (a ∷ l)
+
+module _ {A : Type 0} {P : A → Type 0} where
+  pub all-set : {l : List A} (i : ℕ) (a : A) → P a → All P l → All P (set l i a)
+  all-set i a h none = none
+  all-set zero a h (more k t) = more h t
+  all-set (suc i) a h (more k t) = more k (all-set i a h t)
+
+  pub all-ins : {l : List A} (i : ℕ) (a : A) → P a → All P l → All P (ins i a l)
+  unfolding ins
+  all-ins zero a h t = more h t
+  all-ins (suc i) a h none = more h none
+  all-ins (suc i) a h (more k t) = more k (all-ins i a h t)
+
+  pub all-del : {l : List A} (i : ℕ) → All P l → All P (del i l)
+  unfolding del
+  all-del i none = none
+  all-del zero (more k t) = t
+  all-del (suc i) (more k t) = more k (all-del i t)

@@ -1,0 +1,25 @@
+-- Every promise, by the proof that its crate has.
+use Rattle.edit_theorem.proofs.Made.{edits-made}
+use Rattle.edit_theorem.proofs.Theorem.{edit-theorem}
+use Rattle.great_circles.proofs.Head.{first-is-head}
+use Rattle.marked_cases.proofs.Cases.{marked-cases}
+use Rattle.region.proofs.Made.{build-made}
+use Rattle.region_file.proofs.Made.{read-made}
+use Rattle.region_file.proofs.RoundTrips.{read-written, write-read}
+use Rattle.root.proofs.Rounded.{sqrt-rounded, one-rounded}
+use Rattle.promises.specs.Promises.{Promises}
+
+pub promises : Promises
+promises =
+    record {
+      sqrt-rounded = sqrt-rounded;
+      one-rounded = one-rounded;
+      first-is-head = first-is-head;
+      read-written = read-written;
+      write-read = write-read;
+      edit-theorem = edit-theorem;
+      build-made = build-made;
+      read-made = read-made;
+      edits-made = edits-made;
+      marked-cases = marked-cases;
+    }
