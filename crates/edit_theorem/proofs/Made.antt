@@ -40,9 +40,9 @@ made-step e r a m f h =
     let x = checkedBy s e in
     subst IsMade (sym (n .view)) (good-made (settled x s .corners) (settled x s .flag) (n .good) (doubles-settled e s x refl f (m .doubles)))
 
-pub edits-made : {r last : Region} {es : List Edit} → IsMade (viewOf r) → editsOfDoubles es ≡ true → Run r es last → IsMade (viewOf last)
+pub edits-made : (r last : Region) (es : List Edit) → IsMade (viewOf r) → editsOfDoubles es ≡ true → Run r es last → IsMade (viewOf last)
 unfolding editsOfDoubles
-edits-made m d stop = m
-edits-made m d (step {r = r} {e = e} {es = es} a h rest) =
-    let f = both (editOfDoubles e) (editsOfDoubles es) d in
-    edits-made (made-step e r a m (f .0) h) (f .1) rest
+edits-made r last es m d stop = m
+edits-made r last es m d (step {e = e} {es = rest} a h run) =
+    let f = both (editOfDoubles e) (editsOfDoubles rest) d in
+    edits-made (a .region) last rest (made-step e r a m (f .0) h) (f .1) run

@@ -56,7 +56,7 @@ pub record Promises : Type 0 where
   -- A region is made that was built of points that are doubles, or read, and every one along a list of edits whose points are doubles.
   pub build-made : (points : List Coo3D) (count : ℕ) (rule : ContainsSouthPoleMethod) (v : View) → areDoubles (take count points) ≡ true → buildOf points count rule ≡ answered v → IsMade v
   pub read-made : (s : List ℕ) (v : View) → readOf s ≡ answered v → IsMade v
-  pub edits-made : {r last : Region} {es : List Edit} → IsMade (viewOf r) → editsOfDoubles es ≡ true → Run r es last → IsMade (viewOf last)
+  pub edits-made : (r last : Region) (es : List Edit) → IsMade (viewOf r) → editsOfDoubles es ≡ true → Run r es last → IsMade (viewOf last)
 
   -- Document 01's marked cases hold of S.
   pub marked-cases : MarkedCases (buildOf corners 4 Default)
