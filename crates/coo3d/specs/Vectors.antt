@@ -1,11 +1,18 @@
 -- The vector operations, each float operation in upstream's order and rounded once.
 use mathlib.Core.Bool.{Bool, _&&_, cond}
 use lib.Ieee.{Float, binary64, neg, le, ofBits}
-use Rattle.float.specs.Doubles.{_⊕_, _⊖_, _⊗_, _⊘_, one, pow2, absOf, isFinite}
+use Rattle.float.specs.Doubles.{_⊕_, _⊖_, _⊗_, _⊘_, nought, one, pow2, absOf, isFinite}
 use Rattle.root.specs.Root.{sqrtOf}
 use Rattle.coo3d.specs.declared.Coo3D.{Coo3D}
 use Rattle.coo3d.specs.declared.Vect3.{Vect3}
 use Rattle.coo3d.specs.declared.UnitVect3.{UnitVect3}
+
+-- all numbers +0
+abbrev pub origin : Coo3D
+origin = record { x = nought; y = nought; z = nought; lon = nought; lat = nought }
+
+abbrev pub zeroVect : Vect3
+zeroVect = record { x = nought; y = nought; z = nought }
 
 -- a point, and a unit vector, as a plain vector
 abbrev pub vectOfPoint : Coo3D → Vect3

@@ -1,6 +1,6 @@
 // Points and vectors. Upstream: src/sph_geom/coo3d.rs, whose trait `Vec3` is here the struct `Vect3` and a `to_vect3` of each other type.
 ghost use mathlib.Core.Path.{_≡_};
-ghost use Rattle.coo3d.specs.Vectors.{vectOfPoint, vectOfUnit, dotOf, crossOf, oppositeOf, squaredNorm, normOf, isUnit, normalizedOf, squaredDistOf, unitOf, unitOppositeOf, isFiniteUnit};
+ghost use Rattle.coo3d.specs.Vectors.{origin, zeroVect, vectOfPoint, vectOfUnit, dotOf, crossOf, oppositeOf, squaredNorm, normOf, isUnit, normalizedOf, squaredDistOf, unitOf, unitOppositeOf, isFiniteUnit};
 
 // A point of the sphere, by Cartesian and by geographic coordinates, which need not agree.
 pub struct Coo3D {
@@ -64,6 +64,19 @@ pub fn is_unit_from_norm(norm: f64) -> bool
 }
 
 impl Coo3D {
+    // A point to fill an array with before its entries are known.
+    pub fn origin() -> Coo3D
+        ensures { λ r. ⌜ r ≡ origin ⌝ }
+    {
+        Coo3D {
+            x: 0.0,
+            y: 0.0,
+            z: 0.0,
+            lon: 0.0,
+            lat: 0.0,
+        }
+    }
+
     pub fn to_vect3(self) -> Vect3
         ensures { λ r. ⌜ r ≡ vectOfPoint self ⌝ }
     {
@@ -76,6 +89,16 @@ impl Coo3D {
 }
 
 impl Vect3 {
+    pub fn zero() -> Vect3
+        ensures { λ r. ⌜ r ≡ zeroVect ⌝ }
+    {
+        Vect3 {
+            x: 0.0,
+            y: 0.0,
+            z: 0.0,
+        }
+    }
+
     pub fn squared_norm(self) -> f64
         ensures { λ r. ⌜ r ≡ squaredNorm (self .x) (self .y) (self .z) ⌝ }
     {

@@ -1,10 +1,12 @@
 -- Laws of answers, for callers that go through some one after the other.
 use Prim.Native.Nat.{ℕ}
 use native.Mathlib.Omega.{arith}
-use mathlib.Core.Path.{_≡_, refl, ap}
+use mathlib.Core.Path.{_≡_, refl, sym, ap}
 use mathlib.Core.Bool.{Bool, true, false}
 use mathlib.Core.List.{List}
-use Rattle.refusal.specs.Answer.{Answer, answered, refused, refuseIf, andThen}
+use Rattle.refusal.specs.declared.Cause.{Cause}
+use Rattle.refusal.specs.declared.Outcome.the-variants.{Done, Refused}
+use Rattle.refusal.specs.Answer.{Answer, answered, refused, refuseIf, andThen, outcomeOf}
 
 pub then-answered : {A : Type 0} (x : Answer A) → andThen x answered ≡ x
 then-answered (answered a) = refl
@@ -21,6 +23,9 @@ then-same (refused n v) f g h = refl
 -- no answer is both
 pub never : {A B : Type 0} {a : A} {n : ℕ} {vs : List ℕ} → refused n vs ≡ answered a → B
 never e = absurd (let z : _≡_ {A = ℕ} 0 1 = cc e in omega arith)
+
+pub not-refused : {A : Type 0} (cause : Cause) → Done ≡ Refused cause → A
+not-refused cause e = never {A = Bool} (ap (λ x. outcomeOf x true) (sym e))
 
 -- a test that does not refuse fails, and what follows answers
 pub passed : {A : Type 0} (b : Bool) (n : ℕ) (vs : List ℕ) (next : Answer A) (a : A) → refuseIf b n vs next ≡ answered a → (b ≡ false) × (next ≡ answered a)
