@@ -1,9 +1,7 @@
 // Which points and vectors a call takes. Upstream takes any.
 ghost use mathlib.Core.Path.{_≡_};
-ghost use lib.ListN.{take};
-ghost use Rattle.refusal.specs.Answer.{outcomeOf};
 ghost use Rattle.domain.specs.Domain.{inDomain, vectorInDomain};
-ghost use Rattle.domain.specs.Checks.{pointAnswer, pointAt, vectorAnswer, vectorAt, pointsOf};
+ghost use Rattle.domain.specs.Checks.{pointAnswer, pointAt, vectorAnswer, vectorAt, PointsChecked};
 use coo3d::Coo3D;
 use coo3d::Vect3;
 use refusal::Cause;
@@ -19,7 +17,7 @@ pub enum VectorCheck {
     Refused(Cause),
 }
 
-// The points that were checked are the first `count` of `points`; the others, and all where it is refused, are free.
+// The points that were checked are the first `count` of `points`, and the others are free. A refusal leaves all as they were given.
 pub struct PointsCheck {
     pub points: [Coo3D; 64],
     pub outcome: Outcome,
@@ -64,7 +62,7 @@ pub fn check_vector(v: Vect3, index: usize) -> VectorCheck
 
 // The first `count` points, of which there are 1 to 64, each checked and numbered from 0.
 pub fn check_points(points: [Coo3D; 64], count: usize) -> PointsCheck
-    ensures { λ r. ⌜ outcomeOf (r .outcome) (take count (r .points)) ≡ pointsOf points count ⌝ }
+    ensures { λ r. ⌜ PointsChecked points count r ⌝ }
 {
     if count == 0 {
         return PointsCheck {

@@ -34,7 +34,7 @@ not-finite u ps b e t = simp (sym e ∙ t)
 
 -- what the check answered, where it is done
 done : (c : tie.After-ps) → answered (take (c .before .before .before .before .args .count) (c .before .before .before .check-points .result .points)) ≡ pointsOf (c .before .before .before .before .args .points) (c .before .before .before .before .args .count)
-done c = ap (λ (o : Outcome). outcomeOf o (take (c .before .before .before .before .args .count) (c .before .before .before .check-points .result .points))) (sym (c .before .enum-told .given .1)) ∙ c .before .before .before .check-points .ensures
+done c = ap (λ (o : Outcome). outcomeOf o (take (c .before .before .before .before .args .count) (c .before .before .before .check-points .result .points))) (sym (c .before .enum-told .given .1)) ∙ c .before .before .before .check-points .ensures .answer
 
 check-points-requires : tie.Need-check-points-requires
 check-points-requires c κs = search needs
@@ -61,7 +61,7 @@ returns : tie.Need-returns
 returns c =
     let a = c .before .before .before .before .args in
     let r = c .before .before .before .check-points in
-    passed-on (a .points) (a .count) _ _ (ap (λ (o : Outcome). outcomeOf o (take (a .count) (r .result .points))) (sym (c .before .outcome .given .1)) ∙ r .ensures)
+    passed-on (a .points) (a .count) _ _ (ap (λ (o : Outcome). outcomeOf o (take (a .count) (r .result .points))) (sym (c .before .outcome .given .1)) ∙ r .ensures .answer)
 
 returns-2 : tie.Need-returns-2
 returns-2 c =

@@ -1,9 +1,10 @@
 -- `domain::check_points` meets its contract. Assumes nothing.
 use Prim.Native.Nat.{_≤_, _-_}
 use native.Mathlib.Omega.{arith}
-use mathlib.Core.Path.{_≡_, sym, ap, _∙_}
+use mathlib.Core.Path.{_≡_, refl, sym, ap, _∙_}
 use borrow.Author.Needs.{needs}
 use lib.ListN.{length, take, length-set}
+use Rattle.refusal.proofs.Answers.{not-refused}
 use Rattle.domain.specs.Checks.{pointAnswer, pointsFrom, pointsOf}
 use Rattle.domain.proofs.Points.{soFar, far-start, far-good, far-bad, far-end}
 use Rattle.domain.proofs.Counts.{count-none, count-many, count-few}
@@ -22,11 +23,11 @@ long c h = let e : length (c .args .t1) ≡ 64 = search needs in omega arith
 
 returns : tie.Need-returns Inv-loop μ-loop
 unfolding pointsOf
-returns c = sym (count-none _ _ (c .if1 .taken))
+returns c = record { answer = sym (count-none _ _ (c .if1 .taken)); kept = λ cause e. refl }
 
 returns-2 : tie.Need-returns-2 Inv-loop μ-loop
 unfolding pointsOf
-returns-2 c = sym (count-many _ _ (c .before .if1 .left) (c .if2 .taken))
+returns-2 c = record { answer = sym (count-many _ _ (c .before .if1 .left) (c .if2 .taken)); kept = λ cause e. refl }
 
 loop-holds : tie.Need-loop-holds Inv-loop μ-loop
 loop-holds c = (search needs, (search needs, far-start _ _ _))
@@ -52,7 +53,10 @@ returns-3 c =
     let s = c .before .before .before .before .before .before .before .before in
     let l = c .before .before .before .before .before .loop in
     let told = ap pointAnswer (sym (c .enum-told .given .1)) ∙ c .before .before .check-point .ensures in
-    sym (far-bad _ _ _ (l .out) _ (long s (search needs)) (search needs) _ _ told) ∙ l .inv .1 .1 ∙ sym (count-few (s .args .count) _ (search needs) (search needs))
+    record {
+      answer = sym (far-bad _ _ _ (l .out) _ (long s (search needs)) (search needs) _ _ told) ∙ l .inv .1 .1 ∙ sym (count-few (s .args .count) _ (search needs) (search needs));
+      kept = λ cause e. refl;
+    }
 
 mul-out : tie.Need-mul-out Inv-loop μ-loop
 mul-out c = search needs
@@ -83,7 +87,10 @@ unfolding pointsOf
 returns-4 c =
     let s = c .before .before .before .before in
     let l = c .before .loop in
-    sym (far-end _ _ _ (l .out) (long s (search needs)) (search needs)) ∙ l .inv .1 .1 ∙ sym (count-few (s .args .count) _ (search needs) (search needs))
+    record {
+      answer = sym (far-end _ _ _ (l .out) (long s (search needs)) (search needs)) ∙ l .inv .1 .1 ∙ sym (count-few (s .args .count) _ (search needs) (search needs));
+      kept = λ cause e. not-refused cause e;
+    }
 
 pub check-points-spec : {M : Type 1} → statement M
 check-points-spec =
