@@ -7,7 +7,7 @@ use lib.ListN.{take}
 use Rattle.coo3d.specs.declared.UnitVect3.{UnitVect3}
 use Rattle.coo3d.specs.Vectors.{isFiniteUnit}
 use Rattle.refusal.specs.Answer.{Answer, answered, refused, refuseIf, andThen}
-use Rattle.refusal.proofs.Answers.{never}
+use Rattle.refusal.proofs.Answers.{never, same-answer}
 use Rattle.crossings.specs.declared.Crossing.{Crossing}
 use Rattle.crossings.specs.declared.Crossing.the-variants.{None, At}
 use Rattle.crossings.specs.Crossings.{listed, crossingsOf, testedOf, allFinite, allOf, firstOf}
@@ -21,17 +21,14 @@ tested-at p (At q) e = go (isFiniteUnit q) e
     go true h = cc
     go false h = never h
 
-same : {a b : List UnitVect3} → answered a ≡ answered b → a ≡ b
-same e = cc
-
 -- where neither is refused, the first answer is the head of the list, or none
 pub head-of-all : (ps qs rs : List UnitVect3) → firstOf ps ≡ answered qs → allOf ps ≡ answered rs → qs ≡ take 1 rs
 unfolding firstOf allOf allFinite
-head-of-all [] qs rs f a = sym (same f) ∙ ap (take 1) (same a)
+head-of-all [] qs rs f a = sym (same-answer f) ∙ ap (take 1) (same-answer a)
 head-of-all (p ∷ ps) qs rs f a = go (isFiniteUnit p) (allFinite ps) f a
   where
     go : (b d : Bool) → refuseIf (not b) 6 [] (answered (p ∷ [])) ≡ answered qs → refuseIf (not (b && d)) 6 [] (answered (p ∷ ps)) ≡ answered rs → qs ≡ take 1 rs
-    go true true f a = sym (same f) ∙ ap (take 1) (same a)
+    go true true f a = sym (same-answer f) ∙ ap (take 1) (same-answer a)
     go true false f a = never a
     go false d f a = never f
 

@@ -16,7 +16,7 @@ use Rattle.refusal.specs.declared.Cause.{Cause}
 use Rattle.refusal.specs.declared.Decision.{Decision}
 use Rattle.refusal.specs.declared.Outcome.{Outcome}
 use Rattle.refusal.specs.declared.Outcome.the-variants.{Done, Refused}
-use Rattle.refusal.proofs.Answers.{never, passed, then-same, then-assoc}
+use Rattle.refusal.proofs.Answers.{not-refused, passed, then-same, then-assoc}
 use Rattle.region.specs.declared.Region.{Region}
 use Rattle.region.specs.declared.ContainsSouthPoleMethod.{ContainsSouthPoleMethod}
 use Rattle.region.specs.View.{View, viewOf, withFlag, contained}
@@ -26,10 +26,6 @@ use Rattle.edits.specs.declared.EditAnswer.{EditAnswer}
 use Rattle.edits.specs.Edits.{Edit, put, insert, remove, turn, hold, rule, checked, changed, editOf, Edited}
 
 -- ---- answers
-
--- what is done refuses for no cause
-pub not-refused : {A : Type 0} (cause : Cause) → Done ≡ Refused cause → A
-not-refused cause q = never {A = Bool} (ap (λ x. outcomeOf x true) (sym q))
 
 module _ (e : Edit) (r : Region) (a : EditAnswer) where
   pub refused-edit : (cause : Cause) → a ≡ record { region = r; outcome = Refused cause } → editOf e (viewOf r) ≡ refusedFor cause → Edited e r a

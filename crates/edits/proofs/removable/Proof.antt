@@ -2,7 +2,8 @@
 use mathlib.Core.Path.{_≡_, sym}
 use Prim.Native.Nat.{ℕ, _<_}
 use native.Mathlib.Omega.{arith}
-use Rattle.edits.proofs.Checked.{checked-many, remove-few, remove-index, remove-done, not-refused}
+use Rattle.refusal.proofs.Answers.{not-refused}
+use Rattle.edits.proofs.Checked.{checked-many, remove-few, remove-index, remove-done}
 use Rattle.edits.proofs.removable.Statement.{statement}
 use Rattle.edits.proofs.removable.Tie as tie
 
