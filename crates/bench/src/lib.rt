@@ -80,11 +80,7 @@ fn triple_at(s: &[f64], i: usize) -> Vect3 {
             z: s[3 * i + 2],
         }
     } else {
-        Vect3 {
-            x: 0.0,
-            y: 0.0,
-            z: 0.0,
-        }
+        Vect3::zero()
     }
 }
 
@@ -98,24 +94,12 @@ fn point_at(s: &[f64], i: usize) -> Coo3D {
             lat: s[5 * i + 4],
         }
     } else {
-        Coo3D {
-            x: 0.0,
-            y: 0.0,
-            z: 0.0,
-            lon: 0.0,
-            lat: 0.0,
-        }
+        Coo3D::origin()
     }
 }
 
 fn corners_of(s: &[f64]) -> [Coo3D; 64] {
-    let origin = Coo3D {
-        x: 0.0,
-        y: 0.0,
-        z: 0.0,
-        lon: 0.0,
-        lat: 0.0,
-    };
+    let origin = Coo3D::origin();
     let mut corners = [origin; 64];
     let mut i: usize = 0;
     while i < 64 {
@@ -128,24 +112,9 @@ fn corners_of(s: &[f64]) -> [Coo3D; 64] {
 
 // A region by its fields, so that no build is measured with a call.
 fn region_of(corners: &[f64], normals: &[f64], flag: u64) -> Region {
-    let origin = Coo3D {
-        x: 0.0,
-        y: 0.0,
-        z: 0.0,
-        lon: 0.0,
-        lat: 0.0,
-    };
-    let zero = Vect3 {
-        x: 0.0,
-        y: 0.0,
-        z: 0.0,
-    };
-    let mut region = Region {
-        vertices: [origin; 64],
-        cross_products: [zero; 64],
-        count: corners.len() / 5,
-        contains_south_pole: flag == 1,
-    };
+    let mut region = region::empty();
+    region.count = corners.len() / 5;
+    region.contains_south_pole = flag == 1;
     let mut i: usize = 0;
     while i < 64 {
         let p = point_at(corners, i);

@@ -1,12 +1,12 @@
 -- Laws of `withCount`, for every call that tests a count.
 use Prim.Native.Nat.{ℕ, _≤_, _<_}
 use native.Mathlib.Omega.{arith}
-use mathlib.Core.Path.{_≡_, refl, sym, _∙_}
+use mathlib.Core.Path.{_≡_, refl, sym, ap, _∙_}
 use mathlib.Core.Bool.{Bool, true, false}
-use mathlib.Core.List.{[]}
+use mathlib.Core.List.{List, []}
 use lib.Dec.{eqb, ltb}
 use borrow.Author.Tests.{eqb-false, ltb-false, eq-eqb, ne-eqb, le-ltb, lt-ltb}
-use Rattle.refusal.specs.Answer.{Answer, answered, refused, refuseIf}
+use Rattle.refusal.specs.Answer.{Answer, answered, refused, refuseIf, andThen}
 use Rattle.refusal.proofs.Answers.{never}
 use Rattle.domain.specs.Checks.{withCount}
 
@@ -38,3 +38,12 @@ module _ {A : Type 0} (n : ℕ) (next : Answer A) where
     where
       none : n ≡ 0 → 0 < n → ⊥
       none z p = omega arith
+
+-- a test of the count that refuses does so whatever would follow
+pub count-only : {A B : Type 0} (n : ℕ) (a : A) (next : Answer B) (k : ℕ) (vs : List ℕ) → withCount n (answered a) ≡ refused k vs → withCount n next ≡ refused k vs
+count-only {A} {B} n a next k vs = go (eqb n 0) (ltb 64 n)
+  where
+    go : (b c : Bool) → refuseIf b 2 [] (refuseIf c 3 [] (answered a)) ≡ refused k vs → refuseIf b 2 [] (refuseIf c 3 [] next) ≡ refused k vs
+    go true c e = ap (λ (x : Answer A). andThen x (λ y. next)) e
+    go false true e = ap (λ (x : Answer A). andThen x (λ y. next)) e
+    go false false e = never (sym e)

@@ -36,27 +36,22 @@ pub record Promises : Type 0 where
   -- The root of every positive finite double is rounded as document 01 asks, and no other double is.
   pub sqrt-rounded : (a : Float) → T (fits binary64 a) → T (positive a) → Rounded a (sqrtOf a)
   pub one-rounded : (a r t : Float) → T (fits binary64 r) → T (fits binary64 t) → Rounded a r → Rounded a t → r ≡ t
-
   -- Where no call is refused, an arc's first answer is the head of its list, or none.
   pub first-is-head : (v : View) (a b : Coo3D) (first all : List UnitVect3) → arcFirstOf v a b ≡ answered first → arcAllOf v a b ≡ answered all → first ≡ take 1 all
-
   -- Reading what was written, whatever bytes stand in front, gives the region built afresh from its corners and flag.
   pub read-written :
       (front : List ℕ) (v : View) → 0 < v .count → v .count ≤ 64 → length (v .corners) ≡ v .count → areDoubles (v .corners) ≡ true
       → readOf (front ++ fileOf v) ≡ buildOf (v .corners) (v .count) (fixedRule (v .flag))
   -- Writing what was read gives the file's own bytes, without those in front.
   pub write-read : (s : List ℕ) (v : View) → areBytes s ≡ true → readOf s ≡ answered v → fileOf v ≡ drop (length s - fileLength (v .count)) s
-
   -- For the region of any build that was not refused, and every list of edits, refused ones included: `Holds` says what holds along it.
   pub edit-theorem :
       (points : List Coo3D) (count : ℕ) (rule : ContainsSouthPoleMethod) (b : Built) → Builds b (buildOf points count rule) → b .outcome ≡ Done
       → (es : List Edit) (last : Region) (run : Run (b .region) es last)
       → (s : Plain) × ((startOf points count rule ≡ answered s) × Holds (b .region) last es s run)
-
   -- A region is made that was built of points that are doubles, or read, and every one along a list of edits whose points are doubles.
   pub build-made : (points : List Coo3D) (count : ℕ) (rule : ContainsSouthPoleMethod) (v : View) → areDoubles (take count points) ≡ true → buildOf points count rule ≡ answered v → IsMade v
   pub read-made : (s : List ℕ) (v : View) → readOf s ≡ answered v → IsMade v
   pub edits-made : (r last : Region) (es : List Edit) → IsMade (viewOf r) → editsOfDoubles es ≡ true → Run r es last → IsMade (viewOf last)
-
   -- Document 01's marked cases hold of S.
   pub marked-cases : MarkedCases (buildOf corners 4 Default)

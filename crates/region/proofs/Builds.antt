@@ -16,7 +16,8 @@ use Rattle.region.specs.declared.ContainsSouthPoleMethod.{ContainsSouthP
 use Rattle.region.specs.View.{View, made}
 use Rattle.region.specs.Poles.{fixedRule}
 use Rattle.region.specs.Region.{flagOf, buildOf}
-use Rattle.region.proofs.Flags.{some, flag-fixed}
+use Rattle.region.proofs.Rules.{some}
+use Rattle.region.proofs.Flags.{flag-fixed}
 
 -- the points past the count do not matter
 pub build-first : (l m : List Coo3D) (n : ℕ) (rule : ContainsSouthPoleMethod) → take n l ≡ take n m → buildOf l n rule ≡ buildOf m n rule

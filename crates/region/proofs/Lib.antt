@@ -3,7 +3,9 @@ pub mod Edges
 pub mod Held
 pub mod Corners
 pub mod Odd
+pub mod Rules
 pub mod Flags
+pub mod Answered
 pub mod Builds
 pub mod Made
 pub mod Building

@@ -5,11 +5,13 @@ use mathlib.Core.Bool.{Bool, false}
 use mathlib.Core.List.{List}
 use Rattle.coo3d.specs.declared.Coo3D.{Coo3D}
 use Rattle.domain.specs.Checks.{pointAt, pointsOf, withCount}
-use Rattle.refusal.specs.Answer.{Answer, answered, refused, andThen, outcomeOf}
+use Rattle.refusal.specs.Answer.{Answer, answered, refused, refusedFor, andThen, outcomeOf}
 use Rattle.region.specs.declared.Built.{Built}
 use Rattle.region.specs.declared.ContainsSouthPoleMethod.{ContainsSouthPoleMethod}
 use Rattle.region.specs.declared.ContainsSouthPoleMethod.the-variants.{Default, DefaultComplement, ContainsSouthPole, DoNotContainsSouthPole, ControlPointIn, ControlPointOut}
-use Rattle.region.specs.View.{View, viewOf, empty, exactlyOne, oddAt, made, contained}
+use Rattle.region.specs.declared.RuleCheck.{RuleCheck}
+use Rattle.region.specs.declared.RuleCheck.the-variants as check
+use Rattle.region.specs.View.{View, viewOf, empty, made, contained}
 use Rattle.region.specs.Poles.{ruleFlag}
 
 -- every call on a region value tests its count first
@@ -27,9 +29,9 @@ ruleAt index DoNotContainsSouthPole = answered DoNotContainsSouthPole
 ruleAt index (ControlPointIn p) = andThen (pointAt index p) (λ q. answered (ControlPointIn q))
 ruleAt index (ControlPointOut p) = andThen (pointAt index p) (λ q. answered (ControlPointOut q))
 
--- the flag with which the point, checked, is contained, or is not
-unfoldable pub controlAt : View → Coo3D → Bool → Answer Bool
-controlAt v p isIn = andThen (pointAt (v .count) p) (λ q. answered (exactlyOne (oddAt q v) isIn))
+abbrev pub ruleAnswer : RuleCheck → Answer ContainsSouthPoleMethod
+ruleAnswer (check.Rule rule) = answered rule
+ruleAnswer (check.Refused cause) = refusedFor cause
 
 -- the flag that a rule sets for a region's corners and normals; its control point counts after the corners
 unfoldable pub flagOf : View → ContainsSouthPoleMethod → Answer Bool

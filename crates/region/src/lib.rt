@@ -1,13 +1,14 @@
 // Regions: polygons on the sphere with a pole flag, how they are built, and which points they contain. Upstream: `Polygon` in src/sph_geom/mod.rs.
 ghost use mathlib.Core.Path.{_≡_};
-ghost use mathlib.Core.Bool.{true};
+ghost use mathlib.Core.Bool.{false};
 ghost use Prim.Native.Nat.{_≤_, _<_};
 ghost use lib.ListN.{take};
-ghost use Rattle.refusal.specs.Answer.{answered, refusedFor, outcomeOf, decisionAnswer, andThen};
+ghost use Rattle.refusal.specs.Answer.{answered, refusedFor, decisionAnswer};
+ghost use Rattle.domain.specs.Checks.{pointAt};
 ghost use Rattle.region.specs.Edges.{Edge, normalOf, inLonRange, isCounted};
-ghost use Rattle.region.specs.View.{viewOf};
-ghost use Rattle.region.specs.Region.{controlAt, flagOf, buildOf, containsOf};
-ghost use Rattle.region.specs.Poles.{stepOf, basicOf};
+ghost use Rattle.region.specs.View.{viewOf, empty, oddAt};
+ghost use Rattle.region.specs.Region.{containsOf, ruleAt, ruleAnswer, flagOf, buildOf, Builds};
+ghost use Rattle.region.specs.Poles.{stepOf, basicOf, ruleFlag, fixedRule};
 use coo3d::Coo3D;
 use coo3d::Vect3;
 use domain::PointCheck;
@@ -34,7 +35,13 @@ pub enum ContainsSouthPoleMethod {
     ControlPointOut(Coo3D),
 }
 
-// The region is free where the build is refused.
+// A rule whose control point was checked.
+pub enum RuleCheck {
+    Rule(ContainsSouthPoleMethod),
+    Refused(Cause),
+}
+
+// Beside a refusal stands the empty region.
 pub struct Built {
     pub region: Region,
     pub outcome: Outcome,
@@ -145,31 +152,56 @@ pub fn contains(r: Region, coo: Coo3D) -> Decision
     refusal::decide(is_inside)
 }
 
-// The flag with which the region contains the control point, or does not. As it stands the region tells on which side the point is.
-fn flag_for_control_point(r: Region, control_point: Coo3D, is_in: bool) -> Decision
-    requires { ⌜ (0 < r .count) × (r .count ≤ 64) ⌝ }
-    ensures { λ d. ⌜ decisionAnswer d ≡ controlAt (viewOf r) «control_point» «is_in» ⌝ }
+// The rule, its control point checked and numbered by the caller. Callers go on with the rule that is handed back.
+pub fn check_rule(method: ContainsSouthPoleMethod, index: usize) -> RuleCheck
+    ensures { λ r. ⌜ ruleAnswer r ≡ ruleAt index method ⌝ }
 {
-    let count = r.count;
-    match contains(r, control_point) {
-        Decision::Yes => refusal::decide(r.contains_south_pole == is_in),
-        Decision::No => refusal::decide(r.contains_south_pole != is_in),
-        Decision::Refused(_) => Decision::Refused(Cause::OutsideDomain(count)),
+    match method {
+        ContainsSouthPoleMethod::Default => RuleCheck::Rule(method),
+        ContainsSouthPoleMethod::DefaultComplement => RuleCheck::Rule(method),
+        ContainsSouthPoleMethod::ContainsSouthPole => RuleCheck::Rule(method),
+        ContainsSouthPoleMethod::DoNotContainsSouthPole => RuleCheck::Rule(method),
+        ContainsSouthPoleMethod::ControlPointIn(p) => {
+            let PointCheck::Point(q) = domain::check_point(p, index) else {
+                return RuleCheck::Refused(Cause::OutsideDomain(index));
+            };
+            RuleCheck::Rule(ContainsSouthPoleMethod::ControlPointIn(q))
+        }
+        ContainsSouthPoleMethod::ControlPointOut(p) => {
+            let PointCheck::Point(q) = domain::check_point(p, index) else {
+                return RuleCheck::Refused(Cause::OutsideDomain(index));
+            };
+            RuleCheck::Rule(ContainsSouthPoleMethod::ControlPointOut(q))
+        }
     }
 }
 
-// The flag that the rule sets, where `Basic` is known of the corners.
-fn flag_by_rule(r: Region, is_basic: bool, method: ContainsSouthPoleMethod) -> Decision
-    requires { ⌜ (0 < r .count) × (r .count ≤ 64) × («is_basic» ≡ basicOf (take (r .count) (r .vertices))) ⌝ }
-    ensures { λ d. ⌜ decisionAnswer d ≡ flagOf (viewOf r) method ⌝ }
+// Whether an odd number of edges is counted at a point that was checked: the flag and the side of the point tell it.
+fn odd_at(r: Region, p: Coo3D) -> bool
+    requires { ⌜ (0 < r .count) × (r .count ≤ 64) × (pointAt 0 p ≡ answered p) ⌝ }
+    ensures { λ b. ⌜ b ≡ oddAt p (viewOf r) ⌝ }
 {
-    match method {
-        ContainsSouthPoleMethod::Default => refusal::decide(is_basic),
-        ContainsSouthPoleMethod::DefaultComplement => refusal::decide(!is_basic),
-        ContainsSouthPoleMethod::ContainsSouthPole => Decision::Yes,
-        ContainsSouthPoleMethod::DoNotContainsSouthPole => Decision::No,
-        ContainsSouthPoleMethod::ControlPointIn(p) => flag_for_control_point(r, p, true),
-        ContainsSouthPoleMethod::ControlPointOut(p) => flag_for_control_point(r, p, false),
+    match contains(r, p) {
+        Decision::Yes => !r.contains_south_pole,
+        Decision::No => r.contains_south_pole,
+        Decision::Refused(_) => false,
+    }
+}
+
+// The flag that a checked rule sets.
+fn flag_by_rule(r: Region, rule: ContainsSouthPoleMethod) -> bool
+    requires { ⌜ (0 < r .count) × (r .count ≤ 64) × (ruleAt 0 rule ≡ answered rule) ⌝ }
+    ensures { λ b. ⌜ b ≡ ruleFlag rule (viewOf r) ⌝ }
+{
+    let vertices = r.vertices;
+    let count = r.count;
+    match rule {
+        ContainsSouthPoleMethod::Default => basic(vertices, count),
+        ContainsSouthPoleMethod::DefaultComplement => !basic(vertices, count),
+        ContainsSouthPoleMethod::ContainsSouthPole => true,
+        ContainsSouthPoleMethod::DoNotContainsSouthPole => false,
+        ContainsSouthPoleMethod::ControlPointIn(p) => !odd_at(r, p),
+        ContainsSouthPoleMethod::ControlPointOut(p) => odd_at(r, p),
     }
 }
 
@@ -184,62 +216,40 @@ pub fn contains_south_pole(r: Region, method: ContainsSouthPoleMethod) -> Decisi
     if count > 64 {
         return Decision::Refused(Cause::TooManyPoints);
     }
-    let vertices = r.vertices;
-    flag_by_rule(r, basic(vertices, count), method)
+    match check_rule(method, count) {
+        RuleCheck::Refused(cause) => Decision::Refused(cause),
+        RuleCheck::Rule(rule) => refusal::decide(flag_by_rule(r, rule)),
+    }
 }
 
-// A refused build; its region is free.
-pub fn refused(cause: Cause) -> Built
-    ensures { λ b. ⌜ outcomeOf (b .outcome) (viewOf (b .region)) ≡ refusedFor cause ⌝ }
+// No corner, and a clear flag.
+pub fn empty() -> Region
+    ensures { λ r. ⌜ viewOf r ≡ empty false ⌝ }
 {
-    let origin = Coo3D {
-        x: 0.0,
-        y: 0.0,
-        z: 0.0,
-        lon: 0.0,
-        lat: 0.0,
-    };
-    let zero = Vect3 {
-        x: 0.0,
-        y: 0.0,
-        z: 0.0,
-    };
+    let origin = Coo3D::origin();
+    let zero = Vect3::zero();
+    Region {
+        vertices: [origin; 64],
+        cross_products: [zero; 64],
+        count: 0,
+        contains_south_pole: false,
+    }
+}
+
+// A refused build.
+pub fn refused(cause: Cause) -> Built
+    ensures { λ b. ⌜ Builds b (refusedFor cause) ⌝ }
+{
+    let region = empty();
     Built {
-        region: Region {
-            vertices: [origin; 64],
-            cross_products: [zero; 64],
-            count: 0,
-            contains_south_pole: false,
-        },
+        region,
         outcome: Outcome::Refused(cause),
     }
 }
 
-// The flag that was decided, free where it was refused, and the outcome beside it. So a build has one exit: each would copy the region.
-fn is_yes(flag: Decision) -> bool
-    ensures { λ b. ⌜ andThen (decisionAnswer flag) (λ f. answered b) ≡ decisionAnswer flag ⌝ }
-{
-    match flag {
-        Decision::Yes => true,
-        Decision::No => false,
-        Decision::Refused(_) => false,
-    }
-}
-
-fn outcome_of(flag: Decision) -> Outcome
-    ensures { λ o. ⌜ outcomeOf o true ≡ andThen (decisionAnswer flag) (λ f. answered true) ⌝ }
-{
-    match flag {
-        Decision::Yes => Outcome::Done,
-        Decision::No => Outcome::Done,
-        Decision::Refused(cause) => Outcome::Refused(cause),
-    }
-}
-
-// Upstream: `Polygon::new_custom_vec3`. The corners are checked and all is worked out in the region itself, and `Basic`'s sums beside the normals, so
-// that no array is copied on the way.
-pub fn build(points: [Coo3D; 64], count: usize, method: ContainsSouthPoleMethod) -> Built
-    ensures { λ b. ⌜ outcomeOf (b .outcome) (viewOf (b .region)) ≡ buildOf points count method ⌝ }
+// A region of these corners with this flag. They are checked, and all is worked out, in the region itself, so that no array is copied on the way.
+pub fn build_flagged(points: [Coo3D; 64], count: usize, flag: bool) -> Built
+    ensures { λ b. ⌜ Builds b (buildOf points count (fixedRule flag)) ⌝ }
 {
     if count == 0 {
         return refused(Cause::NoPoint);
@@ -247,16 +257,12 @@ pub fn build(points: [Coo3D; 64], count: usize, method: ContainsSouthPoleMethod)
     if count > 64 {
         return refused(Cause::TooManyPoints);
     }
-    let zero = Vect3 {
-        x: 0.0,
-        y: 0.0,
-        z: 0.0,
-    };
+    let zero = Vect3::zero();
     let mut region = Region {
         vertices: points,
         cross_products: [zero; 64],
         count,
-        contains_south_pole: false,
+        contains_south_pole: flag,
     };
     let mut i: usize = 0;
     while i < count {
@@ -269,21 +275,40 @@ pub fn build(points: [Coo3D; 64], count: usize, method: ContainsSouthPoleMethod)
     }
     let last = count - 1;
     let mut from = region.vertices[last];
-    let mut sum_lon = 0.0;
-    let mut sum_z = 0.0;
     let mut k: usize = 0;
     while k < count {
         let to = region.vertices[k];
         let n = edge_normal(from, to);
         region.cross_products[k] = n;
-        sum_lon = add_step(sum_lon, to.lon - from.lon);
-        sum_z = sum_z + to.z;
         from = to;
         k += 1;
     }
-    let is_basic = (float::abs(sum_lon) > float::PI) & (sum_z < 0.0);
-    let flag = flag_by_rule(region, is_basic, method);
-    region.contains_south_pole = is_yes(flag);
-    let outcome = outcome_of(flag);
-    Built { region, outcome }
+    Built {
+        region,
+        outcome: Outcome::Done,
+    }
+}
+
+// Upstream: `Polygon::new_custom_vec3`.
+pub fn build(points: [Coo3D; 64], count: usize, method: ContainsSouthPoleMethod) -> Built
+    ensures { λ b. ⌜ Builds b (buildOf points count method) ⌝ }
+{
+    let built = build_flagged(points, count, false);
+    let outcome = built.outcome;
+    let Outcome::Done = outcome else {
+        return built;
+    };
+    let mut region = built.region;
+    let n = region.count;
+    match check_rule(method, n) {
+        RuleCheck::Refused(cause) => refused(cause),
+        RuleCheck::Rule(rule) => {
+            let flag = flag_by_rule(region, rule);
+            region.contains_south_pole = flag;
+            Built {
+                region,
+                outcome: Outcome::Done,
+            }
+        }
+    }
 }

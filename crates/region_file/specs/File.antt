@@ -68,9 +68,9 @@ outputOf v out = leftBy (writeOf v (length out)) out (fileOf v ++ drop (fileLeng
 
 -- ---- the flag field in place
 
--- the four bytes of the flag, which begin 12 bytes before the end, set; bytes too few for a trailer stay
+-- the four bytes of the flag, which begin 12 bytes before the end, set; a trailer that is refused leaves every byte
 unfoldable pub withFlagField : List ℕ → Bool → List ℕ
-withFlagField s flag = cond (ltb (length s) 16) s (take (length s - 12) s ++ flagBytes flag ++ drop (length s - 8) s)
+withFlagField s flag = leftBy (trailerOf s) s (take (length s - 12) s ++ flagBytes flag ++ drop (length s - 8) s)
 
 -- ---- the enums' cases
 

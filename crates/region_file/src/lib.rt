@@ -1,17 +1,18 @@
 // The region file, edition 1: document 01, 'Region file'. Upstream has none.
 ghost use mathlib.Core.Path.{_≡_};
+ghost use mathlib.Core.Bool.{true};
 ghost use Prim.Native.Nat.{_+_, _*_, _≤_};
 ghost use lib.ListN.{length, take};
 ghost use lib.Seq.{sets};
-ghost use Rattle.refusal.specs.Answer.{outcomeOf};
+ghost use Rattle.refusal.specs.Answer.{outcomeOf, verdict};
 ghost use Rattle.region.specs.View.{viewOf};
+ghost use Rattle.region.specs.Region.{Builds};
 ghost use Rattle.region_file.specs.Bytes.{numberAt, bytesOf, doubleAt, cornerAt, cornersAt, cornerBytes};
 ghost use Rattle.region_file.specs.File.{fileLength, trailerOf, readOf, trailerBytes, writeOf, outputOf, withFlagField, trailerAnswer, writeAnswer};
 use coo3d::Coo3D;
 use refusal::Cause;
 use refusal::Outcome;
 use region::Built;
-use region::ContainsSouthPoleMethod;
 use region::Region;
 
 // What a trailer that was accepted says.
@@ -76,13 +77,7 @@ fn corners_at(s: &[u8], at: usize, count: usize) -> [Coo3D; 64]
     requires { ⌜ (count ≤ 64) × (at + 40 * count ≤ length (now s)) ⌝ }
     ensures { λ r. ⌜ take count r ≡ cornersAt (now (s .entry)) at count ⌝ }
 {
-    let origin = Coo3D {
-        x: 0.0,
-        y: 0.0,
-        z: 0.0,
-        lon: 0.0,
-        lat: 0.0,
-    };
+    let origin = Coo3D::origin();
     let mut corners = [origin; 64];
     let mut i: usize = 0;
     while i < count {
@@ -132,22 +127,14 @@ pub fn read_trailer(file: &[u8]) -> TrailerAnswer
 
 // Copies all corners out, then builds.
 pub fn read(file: &[u8]) -> Built
-    ensures { λ b. ⌜ outcomeOf (b .outcome) (viewOf (b .region)) ≡ readOf (now (file .entry)) ⌝ }
+    ensures { λ b. ⌜ Builds b (readOf (now (file .entry))) ⌝ }
 {
     match read_trailer(file) {
         TrailerAnswer::Refused(cause) => region::refused(cause),
         TrailerAnswer::Trailer(t) => {
             let count = t.count;
             let corners = corners_at(file, file.len() - (40 * count + 16), count);
-            if t.flag {
-                region::build(corners, count, ContainsSouthPoleMethod::ContainsSouthPole)
-            } else {
-                region::build(
-                    corners,
-                    count,
-                    ContainsSouthPoleMethod::DoNotContainsSouthPole,
-                )
-            }
+            region::build_flagged(corners, count, t.flag)
         }
     }
 }
@@ -213,12 +200,17 @@ pub fn write(r: Region, out: &mut [u8]) -> WriteAnswer
     WriteAnswer::Written(needed)
 }
 
-// Sets the flag field in place; bytes that are too few for a trailer stay.
-pub fn set_flag(file: &mut [u8], flag: bool)
+// Sets the flag field in place; a trailer that is refused leaves every byte.
+pub fn set_flag(file: &mut [u8], flag: bool) -> Outcome
+    ensures { λ o. ⌜ outcomeOf o true ≡ verdict (trailerOf (now (file .entry))) ⌝ }
     ensures { λ _. ⌜ now (file .exit) ≡ withFlagField (now (file .entry)) flag ⌝ }
 {
-    let len = file.len();
-    if len >= 16 {
-        put_number(file, len - 12, 4, flag as u64);
+    match read_trailer(file) {
+        TrailerAnswer::Refused(cause) => Outcome::Refused(cause),
+        TrailerAnswer::Trailer(_) => {
+            let len = file.len();
+            put_number(file, len - 12, 4, flag as u64);
+            Outcome::Done
+        }
     }
 }

@@ -1,184 +1,68 @@
 -- `region::build` meets its contract. Assumes nothing.
-use Prim.Native.Nat.{_-_}
-use mathlib.Core.Path.{_≡_, refl, sym, ap, _∙_}
-use lib.ListN.{length}
+use mathlib.Core.Path.{refl, sym, ap, _∙_}
+use mathlib.Core.Bool.{false}
+use Rattle.region.specs.Region.{ruleAnswer}
+use Rattle.region.proofs.Rules.{rule-again}
+use Rattle.region.proofs.Answered.{builds-done, builds-same}
+use Rattle.region.proofs.Building.{built-view, not-ruled, in-range, rule-refused, rule-taken}
 use borrow.Author.Needs.{needs}
-use Rattle.domain.specs.Checks.{pointAnswer}
-use Rattle.region.specs.View.{viewOf}
-use Rattle.region.proofs.Building.{Checking, checking-starts, checking-good, checking-bad, Working, working-starts, working-turn, passed-on, no-points, many-points, in-range, ends, settled}
 use Rattle.region.proofs.build.Statement.{statement}
 use Rattle.region.proofs.build.Tie as tie
 
-abbrev Inv-loop : tie.InvT-loop
-Inv-loop count method region₀ i₀ region i = Checking (region₀ .vertices) count region i
+build-flagged-requires : tie.Need-build-flagged-requires
+build-flagged-requires c κs = search needs
 
-abbrev μ-loop : tie.MeasureT-loop
-μ-loop count method region₀ i₀ region i = count - i
-
-abbrev Inv-loop2 : tie.InvT-loop2
-Inv-loop2 count method region₀ i last from₀ sum-lon₀ sum-z₀ k₀ region from sum-lon sum-z k = Working (region₀ .vertices) count region from sum-lon sum-z k
-
-abbrev μ-loop2 : tie.MeasureT-loop2
-μ-loop2 count method region₀ i last from₀ sum-lon₀ sum-z₀ k₀ region from sum-lon sum-z k = count - k
-
-refused-requires : tie.Need-refused-requires Inv-loop μ-loop Inv-loop2 μ-loop2
-refused-requires c κs = search needs
-
-returns : tie.Need-returns Inv-loop μ-loop Inv-loop2 μ-loop2
-returns c = c .refused .ensures ∙ passed-on _ _ _ _ _ (sym (no-points _ (c .before .if1 .taken)))
-
-refused-requires-2 : tie.Need-refused-requires-2 Inv-loop μ-loop Inv-loop2 μ-loop2
-refused-requires-2 c κs = search needs
-
-returns-2 : tie.Need-returns-2 Inv-loop μ-loop Inv-loop2 μ-loop2
-returns-2 c = c .refused2 .ensures ∙ passed-on _ _ _ _ _ (sym (many-points _ _ (c .before .before .if1 .left) (c .before .if2 .taken)))
-
-loop-holds : tie.Need-loop-holds Inv-loop μ-loop Inv-loop2 μ-loop2
-loop-holds c = let e : length (c .before .before .args .points) ≡ 64 = search needs in checking-starts _ _ _ refl e refl refl refl
-
-mul-p : tie.Need-mul-p Inv-loop μ-loop Inv-loop2 μ-loop2
-mul-p c = search needs
-
-element-copy-out-p : tie.Need-element-copy-out-p Inv-loop μ-loop Inv-loop2 μ-loop2
-element-copy-out-p c = search needs
-
-check-point-requires : tie.Need-check-point-requires Inv-loop μ-loop Inv-loop2 μ-loop2
-check-point-requires c κs = search needs
-
-enum-known-q : tie.Need-enum-known-q Inv-loop μ-loop Inv-loop2 μ-loop2
-enum-known-q c = search needs
-
-enum-told : tie.Need-enum-told Inv-loop μ-loop Inv-loop2 μ-loop2
+enum-told : tie.Need-enum-told
 enum-told c = search needs
 
-refused-requires-3 : tie.Need-refused-requires-3 Inv-loop μ-loop Inv-loop2 μ-loop2
-refused-requires-3 c κs = search needs
+enum-told-2 : tie.Need-enum-told-2
+enum-told-2 c = search needs
 
-returns-3 : tie.Need-returns-3 Inv-loop μ-loop Inv-loop2 μ-loop2
-returns-3 c =
-    let l = c .before .before .before .before .before .before .loop in
-    let told = ap pointAnswer (sym (c .before .enum-told .given .1)) ∙ c .before .before .before .check-point .ensures in
-    let e : length (c .before .before .before .before .before .before .before .before .before .args .points) ≡ 64 = search needs in
-    c .refused3 .ensures ∙ passed-on _ _ _ _ _ (checking-bad (l .inv) e (c .before .before .before .before .before .before .before .before .if1 .left) (c .before .before .before .before .before .before .before .if2 .left) (c .before .before .before .before .before .loop-test .taken) _ _ told)
+returns : tie.Need-returns
+returns c = not-ruled _ _ false _ _ _ (c .before .before .build-flagged .ensures) (c .enum-told2 .given .1)
 
-mul-q : tie.Need-mul-q Inv-loop μ-loop Inv-loop2 μ-loop2
-mul-q c = search needs
+check-rule-requires : tie.Need-check-rule-requires
+check-rule-requires c κs = search needs
 
-element-set-from-q : tie.Need-element-set-from-q Inv-loop μ-loop Inv-loop2 μ-loop2
-element-set-from-q c = search needs
+enum-known-cause : tie.Need-enum-known-cause
+enum-known-cause c = search needs
 
-add-i : tie.Need-add-i Inv-loop μ-loop Inv-loop2 μ-loop2
-add-i c = search needs
+refused-requires : tie.Need-refused-requires
+refused-requires c κs = search needs
 
-loop-less : tie.Need-loop-less Inv-loop μ-loop Inv-loop2 μ-loop2
-loop-less c = search needs
+enum-known-rule : tie.Need-enum-known-rule
+enum-known-rule c = search needs
 
-loop-again : tie.Need-loop-again Inv-loop μ-loop Inv-loop2 μ-loop2
-loop-again c =
-    let l = c .before .before .before .before .before .before .loop in
-    let good = sym (c .before .before .before .check-point .ensures) ∙ ap pointAnswer (c .before .q .given .1) in
-    let e : length (c .before .before .before .before .before .before .before .before .before .args .points) ≡ 64 = search needs in
-    checking-good (l .inv) e (c .before .before .before .before .before .before .before .if2 .left) (c .before .before .before .before .before .loop-test .taken) _ good
-
-sub-last : tie.Need-sub-last Inv-loop μ-loop Inv-loop2 μ-loop2
-sub-last c = search needs
-
-mul-from : tie.Need-mul-from Inv-loop μ-loop Inv-loop2 μ-loop2
-mul-from c = search needs
-
-element-copy-out-from : tie.Need-element-copy-out-from Inv-loop μ-loop Inv-loop2 μ-loop2
-element-copy-out-from c = search needs
-
-loop2-holds : tie.Need-loop2-holds Inv-loop μ-loop Inv-loop2 μ-loop2
-loop2-holds c = working-starts (c .before .before .loop .inv) (c .before .before .before .before .if1 .left) (c .before .before .before .if2 .left) (c .before .loop-test .left)
-
-mul-to : tie.Need-mul-to Inv-loop μ-loop Inv-loop2 μ-loop2
-mul-to c = search needs
-
-element-copy-out-to : tie.Need-element-copy-out-to Inv-loop μ-loop Inv-loop2 μ-loop2
-element-copy-out-to c = search needs
-
-edge-normal-requires : tie.Need-edge-normal-requires Inv-loop μ-loop Inv-loop2 μ-loop2
-edge-normal-requires c κs = search needs
-
-mul-n : tie.Need-mul-n Inv-loop μ-loop Inv-loop2 μ-loop2
-mul-n c = search needs
-
-element-set-from-n : tie.Need-element-set-from-n Inv-loop μ-loop Inv-loop2 μ-loop2
-element-set-from-n c = search needs
-
-add-step-requires : tie.Need-add-step-requires Inv-loop μ-loop Inv-loop2 μ-loop2
-add-step-requires c κs = search needs
-
-add-k : tie.Need-add-k Inv-loop μ-loop Inv-loop2 μ-loop2
-add-k c = search needs
-
-loop2-less : tie.Need-loop2-less Inv-loop μ-loop Inv-loop2 μ-loop2
-loop2-less c = search needs
-
-loop2-again : tie.Need-loop2-again Inv-loop μ-loop Inv-loop2 μ-loop2
-loop2-again c = working-turn (c .before .before .before .before .before .before .before .loop2 .inv) (c .before .before .before .before .before .before .before .before .before .before .loop .inv .corners) (c .before .before .before .before .before .before .before .before .before .before .before .if2 .left) (c .before .before .before .before .before .before .loop2-test .taken) _ (c .before .before .before .before .edge-normal .ensures) _ (c .before .add-step .ensures)
-
-abs-requires : tie.Need-abs-requires Inv-loop μ-loop Inv-loop2 μ-loop2
-abs-requires c κs = search needs
-
-flag-by-rule-requires : tie.Need-flag-by-rule-requires Inv-loop μ-loop Inv-loop2 μ-loop2
+flag-by-rule-requires : tie.Need-flag-by-rule-requires
 flag-by-rule-requires c κs =
-    let e : length (c .before .before .before .before .before .before .before .before .args .points) ≡ 64 = search needs in
-    in-range (c .before .before .before .before .before .loop .inv) (c .before .before .loop2 .inv) e (c .before .before .before .before .before .before .before .if1 .left) (c .before .before .before .before .before .before .if2 .left) (c .before .before .before .before .loop-test .left) (c .before .loop2-test .left) _ (c .abs .ensures)
+    let built = built-view _ _ (c .before .before .before .before .before .before .before .build-flagged .ensures) (c .before .before .before .before .before .enum-told .given .1) in
+    let told = ap ruleAnswer (sym (c .before .rule .given .1)) ∙ c .before .before .before .check-rule .ensures in
+    let n = in-range _ _ (c .before .before .before .before .before .before .before .before .args .method) _ built in
+    (n .0, n .1, rule-again _ _ _ (sym told) 0)
 
-is-yes-requires : tie.Need-is-yes-requires Inv-loop μ-loop Inv-loop2 μ-loop2
-is-yes-requires c κs = search needs
+returns-2 : tie.Need-returns-2
+returns-2 c =
+    let built = built-view _ _ (c .before .before .before .before .before .before .before .before .build-flagged .ensures) (c .before .before .before .before .before .before .enum-told .given .1) in
+    rule-refused _ _ _ _ built _ _ _ (c .refused .ensures) (ap ruleAnswer (sym (c .before .before .cause .given .1)) ∙ c .before .before .before .before .check-rule .ensures)
 
-outcome-of-requires : tie.Need-outcome-of-requires Inv-loop μ-loop Inv-loop2 μ-loop2
-outcome-of-requires c κs = search needs
-
-returns-4 : tie.Need-returns-4 Inv-loop μ-loop Inv-loop2 μ-loop2
-returns-4 c =
-    let e : length (c .before .before .before .before .before .before .before .before .before .before .before .args .points) ≡ 64 = search needs in
-    settled _ _ (c .outcome-of .result) (viewOf (c .before .before .before .before .before .loop2 .region)) (c .before .is-yes .ensures) (c .outcome-of .ensures)
-    ∙ ends (c .before .before .before .before .before .before .before .before .loop .inv) (c .before .before .before .before .before .loop2 .inv) e (c .before .before .before .before .before .before .before .before .before .before .if1 .left) (c .before .before .before .before .before .before .before .before .before .if2 .left) (c .before .before .before .before .before .before .before .loop-test .left) (c .before .before .before .before .loop2-test .left) _ _ (c .before .before .flag-by-rule .ensures)
+returns-3 : tie.Need-returns-3
+returns-3 c =
+    let built = built-view _ _ (c .before .before .before .before .before .before .before .before .build-flagged .ensures) (c .before .before .before .before .before .before .enum-told .given .1) in
+    let told = ap ruleAnswer (sym (c .before .before .rule .given .1)) ∙ c .before .before .before .before .check-rule .ensures in
+    builds-same _ _ _ (rule-taken _ _ _ _ built _ _ told (c .flag-by-rule .ensures)) (builds-done _ _ refl)
 
 pub build-spec : {M : Type 1} → statement M
 build-spec =
     tie.close
     (tie.spec
-    Inv-loop
-    μ-loop
-    Inv-loop2
-    μ-loop2
-    refused-requires
-    returns
-    refused-requires-2
-    returns-2
-    loop-holds
-    mul-p
-    element-copy-out-p
-    check-point-requires
-    enum-known-q
+    build-flagged-requires
     enum-told
-    refused-requires-3
-    returns-3
-    mul-q
-    element-set-from-q
-    add-i
-    loop-less
-    loop-again
-    sub-last
-    mul-from
-    element-copy-out-from
-    loop2-holds
-    mul-to
-    element-copy-out-to
-    edge-normal-requires
-    mul-n
-    element-set-from-n
-    add-step-requires
-    add-k
-    loop2-less
-    loop2-again
-    abs-requires
+    enum-told-2
+    returns
+    check-rule-requires
+    enum-known-cause
+    refused-requires
+    enum-known-rule
     flag-by-rule-requires
-    is-yes-requires
-    outcome-of-requires
-    returns-4)
+    returns-2
+    returns-3)
