@@ -1,5 +1,6 @@
 -- `doors::jigwandor_contains` meets its contract. Assumes nothing.
 use mathlib.Core.Path.{_∙_}
+use Rattle.region.proofs.Answered.{as-answer}
 use Rattle.doors.proofs.Codes.{contains-unread, contains-done}
 use borrow.Author.Needs.{needs}
 use Rattle.doors.proofs.jigwandor_contains.Statement.{statement}
@@ -18,7 +19,7 @@ outcome-code-requires : tie.Need-outcome-code-requires
 outcome-code-requires c κs = search needs
 
 returns : tie.Need-returns
-returns c = c .outcome-code .ensures ∙ contains-unread _ _ _ _ (c .before .before .before .read .ensures) _ (c .before .enum-told2 .given .1)
+returns c = c .outcome-code .ensures ∙ contains-unread _ _ _ _ (as-answer _ _ (c .before .before .before .read .ensures)) _ (c .before .enum-told2 .given .1)
 
 contains-requires : tie.Need-contains-requires
 contains-requires c κs = search needs
@@ -27,7 +28,7 @@ decision-code-requires : tie.Need-decision-code-requires
 decision-code-requires c κs = search needs
 
 returns-2 : tie.Need-returns-2
-returns-2 c = c .decision-code .ensures ∙ contains-done _ _ _ _ (c .before .before .before .before .before .read .ensures) _ (c .before .before .before .enum-told .given .1) (c .before .contains .ensures)
+returns-2 c = c .decision-code .ensures ∙ contains-done _ _ _ _ (as-answer _ _ (c .before .before .before .before .before .read .ensures)) _ (c .before .before .before .enum-told .given .1) (c .before .contains .ensures)
 
 pub jigwandor-contains-spec : {M : Type 1} → statement M
 jigwandor-contains-spec =

@@ -1,5 +1,6 @@
 -- `doors::jigwandor_hold` meets its contract. Assumes nothing.
 use mathlib.Core.Path.{_∙_}
+use Rattle.region.proofs.Answered.{as-answer}
 use Rattle.doors.proofs.Codes.{hold-unread, hold-refused, hold-done}
 use borrow.Author.Needs.{needs}
 use Rattle.doors.proofs.jigwandor_hold.Statement.{statement}
@@ -21,7 +22,7 @@ same-length : tie.Need-same-length
 same-length c = search needs
 
 returns : tie.Need-returns
-returns c = let h = hold-unread _ _ _ _ (c .before .before .before .read .ensures) _ (c .before .enum-told2 .given .1) in (c .outcome-code .ensures ∙ h .0, h .1)
+returns c = let h = hold-unread _ _ _ _ (as-answer _ _ (c .before .before .before .read .ensures)) _ (c .before .enum-told2 .given .1) in (c .outcome-code .ensures ∙ h .0, h .1)
 
 hold-requires : tie.Need-hold-requires
 hold-requires c κs = search needs
@@ -39,7 +40,7 @@ same-length-2 : tie.Need-same-length-2
 same-length-2 c = search needs
 
 returns-2 : tie.Need-returns-2
-returns-2 c = let h = hold-refused _ _ _ _ (c .before .before .before .before .before .before .before .read .ensures) _ _ (c .before .before .before .before .before .enum-told .given .1) (c .before .before .before .hold .ensures .answer) _ (c .before .enum-told4 .given .1) in (c .outcome-code2 .ensures ∙ h .0, h .1)
+returns-2 c = let h = hold-refused _ _ _ _ (as-answer _ _ (c .before .before .before .before .before .before .before .read .ensures)) _ _ (c .before .before .before .before .before .enum-told .given .1) (c .before .before .before .hold .ensures .answer) _ (c .before .enum-told4 .given .1) in (c .outcome-code2 .ensures ∙ h .0, h .1)
 
 set-flag-requires : tie.Need-set-flag-requires
 set-flag-requires c κs = search needs
@@ -48,7 +49,7 @@ same-length-3 : tie.Need-same-length-3
 same-length-3 c = search needs
 
 returns-3 : tie.Need-returns-3
-returns-3 c = let h = hold-done _ _ _ _ (c .before .before .before .before .before .before .before .before .before .before .before .read .ensures) _ _ (c .before .before .before .before .before .before .before .before .before .enum-told .given .1) (c .before .before .before .before .before .before .before .hold .ensures .answer) (c .before .before .before .before .before .enum-told3 .given .1) in (h .0, c .before .before .set-flag .ensures ∙ h .1)
+returns-3 c = let h = hold-done _ _ _ _ (as-answer _ _ (c .before .before .before .before .before .before .before .before .before .before .before .read .ensures)) _ _ (c .before .before .before .before .before .before .before .before .before .enum-told .given .1) (c .before .before .before .before .before .before .before .hold .ensures .answer) (c .before .before .before .before .before .enum-told3 .given .1) in (h .0, c .before .before .set-flag .ensures .1 ∙ h .1)
 
 pub jigwandor-hold-spec : {M : Type 1} → statement M
 jigwandor-hold-spec =

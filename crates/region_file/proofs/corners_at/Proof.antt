@@ -36,6 +36,9 @@ Inv-loop s at count corners₀ i₀ corners i = (i ≤ count) × ((length corner
 abbrev μ-loop : tie.MeasureT-loop
 μ-loop s at count corners₀ i₀ corners i = count - i
 
+origin-requires : tie.Need-origin-requires Inv-loop μ-loop
+origin-requires c κs = search needs
+
 loop-holds : tie.Need-loop-holds Inv-loop μ-loop
 loop-holds c = (search needs, (refl, starts _ _ _))
 
@@ -72,6 +75,7 @@ corners-at-spec =
     (tie.spec
     Inv-loop
     μ-loop
+    origin-requires
     loop-holds
     mul-corner-at
     add-corner-at

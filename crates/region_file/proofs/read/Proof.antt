@@ -2,13 +2,9 @@
 use Prim.Native.Nat.{ℕ, _+_, _-_, _*_, _≤_}
 use native.Mathlib.Omega.{arith}
 use mathlib.Core.Path.{_≡_, sym, ap, _∙_}
-use mathlib.Core.Bool.{Bool}
-use mathlib.Core.List.{List}
 use lib.ListN.{length}
-use Rattle.coo3d.specs.declared.Coo3D.{Coo3D}
 use Rattle.refusal.specs.Answer.{answered}
-use Rattle.region.specs.Poles.{fixedRule}
-use Rattle.region.specs.Region.{buildOf}
+use Rattle.region.proofs.Answered.{builds-same}
 use Rattle.region_file.specs.declared.Trailer.{Trailer}
 use Rattle.region_file.specs.File.{fileLength, trailerOf, trailerAnswer}
 use Rattle.region_file.proofs.Trailers.{Accepted, accepted}
@@ -16,9 +12,6 @@ use Rattle.region_file.proofs.Reading.{read-refused, read-built}
 use borrow.Author.Needs.{needs}
 use Rattle.region_file.proofs.read.Statement.{statement}
 use Rattle.region_file.proofs.read.Tie as tie
-
-by-flag : (l : List Coo3D) (n : ℕ) (f g : Bool) → f ≡ g → buildOf l n (fixedRule g) ≡ buildOf l n (fixedRule f)
-by-flag l n f g e = rw e
 
 told : (c : tie.After-known-told2) → trailerOf (c .before .before .before .before .before .args .file .now) ≡ answered (c .before .t .given .0 .0)
 told c = sym (ap trailerAnswer (sym (c .before .t .given .1)) ∙ c .before .before .before .read-trailer .ensures)
@@ -50,24 +43,14 @@ sub-corners-at c = let w = known c .whole in omega (arith, w)
 corners-at-requires : tie.Need-corners-at-requires
 corners-at-requires c κs = let w = known c .whole in (known c .few, omega (arith, w))
 
-build-requires : tie.Need-build-requires
-build-requires c κs = search needs
-
-build-requires-2 : tie.Need-build-requires-2
-build-requires-2 c κs = search needs
+build-flagged-requires : tie.Need-build-flagged-requires
+build-flagged-requires c κs = search needs
 
 returns : tie.Need-returns
-returns c = c .refused .ensures ∙ read-refused _ _ _ (ap trailerAnswer (sym (c .before .before .cause .given .1)) ∙ c .before .before .before .before .read-trailer .ensures)
+returns c = builds-same _ _ _ (read-refused _ _ _ (ap trailerAnswer (sym (c .before .before .cause .given .1)) ∙ c .before .before .before .before .read-trailer .ensures)) (c .refused .ensures)
 
 returns-2 : tie.Need-returns-2
-returns-2 c =
-    let s = c .before .before .before in
-    c .build .ensures ∙ by-flag _ _ _ _ (c .before .if1 .taken) ∙ read-built _ _ _ (sym (told s)) (c .before .before .corners-at .ensures)
-
-returns-3 : tie.Need-returns-3
-returns-3 c =
-    let s = c .before .before .before in
-    c .build2 .ensures ∙ by-flag _ _ _ _ (c .before .if1 .left) ∙ read-built _ _ _ (sym (told s)) (c .before .before .corners-at .ensures)
+returns-2 c = builds-same _ _ _ (read-built _ _ _ (sym (told (c .before .before))) (c .before .corners-at .ensures)) (c .build-flagged .ensures)
 
 pub read-spec : {M : Type 1} → statement M
 read-spec =
@@ -81,8 +64,6 @@ read-spec =
     add-corners-at
     sub-corners-at
     corners-at-requires
-    build-requires
-    build-requires-2
+    build-flagged-requires
     returns
-    returns-2
-    returns-3)
+    returns-2)
