@@ -15,7 +15,8 @@ use Rattle.region.specs.declared.ContainsSouthPoleMethod.{ContainsSouthPoleMeth
 use Rattle.region.specs.View.{View, made}
 use Rattle.region.specs.Region.{buildOf}
 use Rattle.region.proofs.Builds.{build-answered, built-good}
-use Rattle.region.proofs.Flags.{some, flag-fixed}
+use Rattle.region.proofs.Flags.{flag-fixed}
+use Rattle.region.proofs.Rules.{some}
 use Rattle.edits.specs.Edits.{Edit}
 use Rattle.edit_theorem.specs.Record.{Plain, regionOf, edited, afresh}
 use Rattle.edit_theorem.specs.Theorem.{startOf}

@@ -13,9 +13,9 @@ use Rattle.refusal.specs.declared.Outcome.{Outcome}
 use Rattle.refusal.specs.declared.Outcome.the-variants.{Done, Refused}
 use Rattle.refusal.proofs.Answers.{never}
 use Rattle.region.specs.declared.Region.{Region}
-use Rattle.region.specs.declared.Built.{Built}
 use Rattle.region.specs.View.{View, viewOf, exactlyOne, contained}
-use Rattle.region.specs.Region.{buildOf, containsOf, regionBy, Builds}
+use Rattle.region.specs.Region.{buildOf, containsOf}
+use Rattle.region.proofs.Building.{built-view}
 use Rattle.edits.specs.declared.EditAnswer.{EditAnswer}
 use Rattle.edits.specs.Edits.{Edit, Edited, changed, editOf}
 use Rattle.edit_theorem.specs.Record.{Plain, regionOf, edited, checkedBy, settled, after}
@@ -80,11 +80,6 @@ holds {r = r} s stop g v = at-end (agrees s r g v)
 holds s (step {r = r} {e = e} a h rest) g v =
     let n = step-of s e r a g v h in
     at-edit a h rest (agrees s r g v) (n .outcome) (turns s e r a g v h) (holds (after e s) rest (n .good) (n .view))
-
--- a build that is done answers its view
-built-view : (a : Answer View) (b : Built) → Builds b a → b .outcome ≡ Done → a ≡ answered (viewOf (b .region))
-built-view (answered v) b h done = ap answered (sym (h .view))
-built-view (refused n vs) b h done = never (sym (h .outcome) ∙ ap (λ (o : Outcome). outcomeOf o (regionBy (refused n vs))) done)
 
 pub edit-theorem : EditTheorem
 edit-theorem points count rule b built done es last run =

@@ -116,7 +116,7 @@ pub fn contains(r: Region, coo: Coo3D) -> Decision
     if count == 0 {
         return Decision::Refused(Cause::NoPoint);
     }
-    if count > 64 {
+    if 64 < count {
         return Decision::Refused(Cause::TooManyPoints);
     }
     let PointCheck::Point(p) = domain::check_point(coo, 0) else {
