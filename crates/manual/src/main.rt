@@ -10,8 +10,6 @@ use region::Region;
 use zone::Zone;
 use zone::ZoneAnswer;
 
-mod tell;
-
 fn at(x: f64, y: f64, z: f64, lon: f64, lat: f64) -> Coo3D {
     Coo3D { x, y, z, lon, lat }
 }

@@ -33,7 +33,7 @@ fn say_double(x: f64) {
     io::print_hex(STDOUT_FILENO, float::to_bits(x), 16);
 }
 
-pub(crate) fn call(name: &[u8]) {
+pub fn call(name: &[u8]) {
     say(name);
     say(b"\n");
 }
@@ -43,32 +43,32 @@ fn word(text: &[u8]) {
     call(text);
 }
 
-pub(crate) fn number(n: u64) {
+pub fn number(n: u64) {
     say(b"  ");
     say_number(n);
     say(b"\n");
 }
 
-pub(crate) fn bits(n: u64) {
+pub fn bits(n: u64) {
     say(b"  ");
     io::print_hex(STDOUT_FILENO, n, 16);
     say(b"\n");
 }
 
-pub(crate) fn double(x: f64) {
+pub fn double(x: f64) {
     say(b" ");
     say_double(x);
     say(b"\n");
 }
 
-pub(crate) fn lon_lat(p: LonLat) {
+pub fn lon_lat(p: LonLat) {
     say(b" ");
     say_double(p.lon);
     say_double(p.lat);
     say(b"\n");
 }
 
-pub(crate) fn vector(v: Vect3) {
+pub fn vector(v: Vect3) {
     say(b" ");
     say_double(v.x);
     say_double(v.y);
@@ -76,11 +76,11 @@ pub(crate) fn vector(v: Vect3) {
     say(b"\n");
 }
 
-pub(crate) fn unit(v: UnitVect3) {
+pub fn unit(v: UnitVect3) {
     vector(v.to_vect3());
 }
 
-pub(crate) fn yes_no(yes: bool) {
+pub fn yes_no(yes: bool) {
     if yes {
         word(b"yes");
     } else {
@@ -89,7 +89,7 @@ pub(crate) fn yes_no(yes: bool) {
 }
 
 // The number, and what stands beside it.
-pub(crate) fn refused(cause: Cause) {
+fn refused(cause: Cause) {
     say(b"  refused ");
     say_number(refusal::number(cause));
     match cause {
@@ -106,7 +106,7 @@ pub(crate) fn refused(cause: Cause) {
     say(b"\n");
 }
 
-pub(crate) fn decision(answer: Decision) {
+pub fn decision(answer: Decision) {
     match answer {
         Decision::Yes => yes_no(true),
         Decision::No => yes_no(false),
@@ -114,7 +114,7 @@ pub(crate) fn decision(answer: Decision) {
     }
 }
 
-pub(crate) fn outcome(answer: Outcome) {
+pub fn outcome(answer: Outcome) {
     match answer {
         Outcome::Done => word(b"done"),
         Outcome::Refused(cause) => refused(cause),
@@ -142,19 +142,17 @@ fn region(r: Region, outcome: Outcome) {
     }
 }
 
-pub(crate) fn built(answer: Built) {
-    let r = answer.region;
+pub fn built(answer: Built) {
     let outcome = answer.outcome;
-    region(r, outcome);
+    region(answer.region, outcome);
 }
 
-pub(crate) fn edited(answer: EditAnswer) {
-    let r = answer.region;
+pub fn edited(answer: EditAnswer) {
     let outcome = answer.outcome;
-    region(r, outcome);
+    region(answer.region, outcome);
 }
 
-pub(crate) fn first(answer: FirstAnswer) {
+pub fn first(answer: FirstAnswer) {
     match answer {
         FirstAnswer::At(p) => unit(p),
         FirstAnswer::None => word(b"none"),
@@ -175,7 +173,7 @@ fn say_points(points: [UnitVect3; 64], len: usize) {
 }
 
 // The outcome, the list's length, and a line for each of its points.
-pub(crate) fn all(answer: AllAnswer) {
+pub fn all(answer: AllAnswer) {
     let crossings = answer.crossings;
     let points = crossings.points;
     let len = crossings.len;
@@ -187,7 +185,7 @@ pub(crate) fn all(answer: AllAnswer) {
     say_points(points, len);
 }
 
-pub(crate) fn tested(answer: Tested) {
+pub fn tested(answer: Tested) {
     match answer {
         Tested::Crossing(crossing) => match crossing {
             Crossing::At(p) => unit(p),
@@ -198,7 +196,7 @@ pub(crate) fn tested(answer: Tested) {
 }
 
 // The bounds, and whether the zone runs over the meridian 0.
-pub(crate) fn zone(answer: ZoneAnswer) {
+pub fn zone(answer: ZoneAnswer) {
     match answer {
         ZoneAnswer::Made(zone) => {
             double(zone.lon_min);
@@ -212,18 +210,17 @@ pub(crate) fn zone(answer: ZoneAnswer) {
 }
 
 // The centre, and the largest squared chord.
-pub(crate) fn cone(answer: ConeAnswer) {
+pub fn cone(answer: ConeAnswer) {
     match answer {
         ConeAnswer::Made(cone) => {
-            let center = cone.center;
-            unit(center);
+            unit(cone.center);
             double(cone.d2_max);
         }
         ConeAnswer::Refused(cause) => refused(cause),
     }
 }
 
-pub(crate) fn trailer(answer: TrailerAnswer) {
+pub fn trailer(answer: TrailerAnswer) {
     match answer {
         TrailerAnswer::Trailer(t) => {
             say(b"  ");
@@ -233,7 +230,7 @@ pub(crate) fn trailer(answer: TrailerAnswer) {
     }
 }
 
-pub(crate) fn written(answer: WriteAnswer) {
+pub fn written(answer: WriteAnswer) {
     match answer {
         WriteAnswer::Written(len) => {
             say(b"  written ");
@@ -251,7 +248,7 @@ fn say_byte(b: u8) {
 }
 
 // Two digits for each byte.
-pub(crate) fn bytes(b: &[u8]) {
+pub fn bytes(b: &[u8]) {
     say(b" ");
     let mut i: usize = 0;
     while i < b.len() {
@@ -262,14 +259,14 @@ pub(crate) fn bytes(b: &[u8]) {
 }
 
 // Of the point, x, y and z.
-pub(crate) fn point_check(answer: PointCheck) {
+pub fn point_check(answer: PointCheck) {
     match answer {
         PointCheck::Point(p) => vector(p.to_vect3()),
         PointCheck::Refused(cause) => refused(cause),
     }
 }
 
-pub(crate) fn vector_check(answer: VectorCheck) {
+pub fn vector_check(answer: VectorCheck) {
     match answer {
         VectorCheck::Vector(v) => vector(v),
         VectorCheck::Refused(cause) => refused(cause),
