@@ -56,6 +56,24 @@ fn region_build() {
     tell::built(region::build(corners, 4, ContainsSouthPoleMethod::ControlPointIn(south)));
     tell::built(region::build(corners, 4, ContainsSouthPoleMethod::ControlPointIn(wrong)));
     tell::built(region::build(corners, 65, ContainsSouthPoleMethod::Default));
+    let overlooked = region::build(corners, 4, ContainsSouthPoleMethod::ControlPointIn(wrong));
+    let r = overlooked.region;
+    tell::decision(region::contains(r, south));
+}
+
+fn region_build_flagged() {
+    tell::call(b"region::build_flagged");
+    let mut corners = square_corners();
+    tell::built(region::build_flagged(corners, 4, true));
+    let wrong = at(0.0, 0.0, -1.0, 7.0, -1.5);
+    corners[2] = wrong;
+    tell::built(region::build_flagged(corners, 4, true));
+}
+
+fn region_empty() {
+    tell::call(b"region::empty");
+    let nothing = region::empty();
+    tell::decision(region::contains(nothing, at(0.0, 0.5, 0.5, 1.5, 0.5)));
 }
 
 fn region_refused() {
@@ -77,6 +95,13 @@ fn region_contains_south_pole() {
     let north = at(0.0, 0.0, 1.0, 0.0, 1.5);
     tell::decision(region::contains_south_pole(s, ContainsSouthPoleMethod::DefaultComplement));
     tell::decision(region::contains_south_pole(s, ContainsSouthPoleMethod::ControlPointIn(north)));
+}
+
+fn region_check_rule() {
+    tell::call(b"region::check_rule");
+    let wrong = at(0.0, 0.0, -1.0, 7.0, -1.5);
+    tell::rule_check(region::check_rule(ContainsSouthPoleMethod::Default, 4));
+    tell::rule_check(region::check_rule(ContainsSouthPoleMethod::ControlPointOut(wrong), 4));
 }
 
 fn region_edge_normal() {
@@ -395,11 +420,14 @@ fn region_file_write() {
 fn region_file_set_flag() {
     tell::call(b"region_file::set_flag");
     let mut file = square_file();
-    region_file::set_flag(&mut file, true);
+    let set = region_file::set_flag(&mut file, true);
+    tell::outcome(set);
     tell::bytes(&file[160..176]);
     let read = region_file::read(&file);
     let r = read.region;
     tell::decision(region::contains(r, at(0.0, 0.5, 0.5, 1.5, 0.5)));
+    let cut = region_file::set_flag(&mut file[1..], true);
+    tell::outcome(cut);
 }
 
 fn coo3d_dot_product() {
@@ -427,10 +455,21 @@ fn coo3d_is_unit_from_norm() {
     tell::yes_no(coo3d::is_unit_from_norm(1.5));
 }
 
+fn coo3d_coo3d_origin() {
+    tell::call(b"Coo3D::origin");
+    let o = Coo3D::origin();
+    tell::vector(o.to_vect3());
+}
+
 fn coo3d_coo3d_to_vect3() {
     tell::call(b"Coo3D::to_vect3");
     let p = at(0.0, 0.5, 0.75, 1.5, 0.5);
     tell::vector(p.to_vect3());
+}
+
+fn coo3d_vect3_zero() {
+    tell::call(b"Vect3::zero");
+    tell::vector(Vect3::zero());
 }
 
 fn coo3d_vect3_squared_norm() {
@@ -749,9 +788,12 @@ fn minus_zero_in_a_file() {
 
 fn main() {
     region_build();
+    region_build_flagged();
+    region_empty();
     region_refused();
     region_contains();
     region_contains_south_pole();
+    region_check_rule();
     region_edge_normal();
     region_is_in_lon_range();
     region_is_counted();
@@ -789,7 +831,9 @@ fn main() {
     coo3d_cross_product();
     coo3d_squared_norm_of();
     coo3d_is_unit_from_norm();
+    coo3d_coo3d_origin();
     coo3d_coo3d_to_vect3();
+    coo3d_vect3_zero();
     coo3d_vect3_squared_norm();
     coo3d_vect3_norm();
     coo3d_vect3_opposite();

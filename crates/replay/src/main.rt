@@ -2,8 +2,6 @@
 // has a library that decodes it, calls the library's public functions and encodes the answer. A new request is a function there, and here its number
 // and a line in `ask`, `change` or `step`, by what it changes.
 use answers::Kept;
-use coo3d::Coo3D;
-use coo3d::Vect3;
 use region::Region;
 use shape_requests::KeptZone;
 use shape_requests::Zoned;
@@ -69,30 +67,8 @@ struct State {
     stream: Stream,
 }
 
-// A value of count 0.
-fn no_region() -> Region {
-    let origin = Coo3D {
-        x: 0.0,
-        y: 0.0,
-        z: 0.0,
-        lon: 0.0,
-        lat: 0.0,
-    };
-    let zero = Vect3 {
-        x: 0.0,
-        y: 0.0,
-        z: 0.0,
-    };
-    Region {
-        vertices: [origin; 64],
-        cross_products: [zero; 64],
-        count: 0,
-        contains_south_pole: false,
-    }
-}
-
 fn new() -> State {
-    let region = no_region();
+    let region = region::empty();
     let zone = shape_requests::no_zone();
     let stream = stream::new();
     State {

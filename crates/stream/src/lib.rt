@@ -272,11 +272,7 @@ pub fn get_vector(s: Stream, input: &mut Buffer) -> Vector {
 
 // 64 vectors.
 pub fn get_vectors(s: Stream, input: &mut Buffer) -> Vectors {
-    let zero = Vect3 {
-        x: 0.0,
-        y: 0.0,
-        z: 0.0,
-    };
+    let zero = Vect3::zero();
     let mut values = [zero; 64];
     let mut stream = s;
     let mut i: usize = 0;
@@ -308,13 +304,7 @@ pub fn get_point(s: Stream, input: &mut Buffer) -> Point {
 
 // n points, of which those past the 64th are read and dropped.
 pub fn get_points(s: Stream, input: &mut Buffer, n: usize) -> Points {
-    let origin = Coo3D {
-        x: 0.0,
-        y: 0.0,
-        z: 0.0,
-        lon: 0.0,
-        lat: 0.0,
-    };
+    let origin = Coo3D::origin();
     let mut values = [origin; 64];
     let mut stream = s;
     let mut i: usize = 0;

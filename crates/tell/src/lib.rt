@@ -16,6 +16,7 @@ use refusal::Decision;
 use refusal::Outcome;
 use region::Built;
 use region::Region;
+use region::RuleCheck;
 use region_file::TrailerAnswer;
 use region_file::WriteAnswer;
 use zone::ZoneAnswer;
@@ -270,5 +271,12 @@ pub fn vector_check(answer: VectorCheck) {
     match answer {
         VectorCheck::Vector(v) => vector(v),
         VectorCheck::Refused(cause) => refused(cause),
+    }
+}
+
+pub fn rule_check(answer: RuleCheck) {
+    match answer {
+        RuleCheck::Rule(_) => word(b"taken"),
+        RuleCheck::Refused(cause) => refused(cause),
     }
 }
