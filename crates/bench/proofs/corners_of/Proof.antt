@@ -13,4 +13,4 @@ abbrev μ-loop : tie.MeasureT-loop
 μ-loop s corners₀ i₀ corners i = 64 - i
 
 pub corners-of-spec : {M : Type 1} → statement M
-corners-of-spec = tie.close (tie.spec Inv-loop μ-loop (λ c. search needs) (λ c κs. search needs) (λ c. search needs) (λ c. search needs) (λ c. search needs) (λ c. search needs) (λ c. search needs) (λ c. search needs))
+corners-of-spec = tie.close (tie.spec Inv-loop μ-loop (λ c κs. search needs) (λ c. search needs) (λ c κs. search needs) (λ c. search needs) (λ c. search needs) (λ c. search needs) (λ c. search needs) (λ c. search needs) (λ c. search needs))
