@@ -29,13 +29,13 @@ static const struct fix fixes[] = {
 
 enum { FIXES = sizeof fixes / sizeof *fixes, HELD_FIX = 8 };
 
-static uint32_t ask(const uint8_t *file, size_t len, struct fix fix)
+static uint32_t ask(const uint8_t *file, uint64_t len, struct fix fix)
 {
     double lon = fix.lon * DEGREE, lat = fix.lat * DEGREE;
     return jigwandor_contains(file, len, cos(lat) * cos(lon), cos(lat) * sin(lon), sin(lat), lon, lat);
 }
 
-static uint32_t hold(uint8_t *file, size_t len, struct fix fix)
+static uint32_t hold(uint8_t *file, uint64_t len, struct fix fix)
 {
     double lon = fix.lon * DEGREE, lat = fix.lat * DEGREE;
     return jigwandor_hold(file, len, cos(lat) * cos(lon), cos(lat) * sin(lon), sin(lat), lon, lat);
@@ -67,7 +67,7 @@ int main(int argc, char **argv)
         fprintf(stderr, "usage: demo FILE\n");
         return 2;
     }
-    size_t len = fread(file, 1, sizeof file, in);
+    uint64_t len = fread(file, 1, sizeof file, in);
     fclose(in);
 
     memcpy(copy, file, len);

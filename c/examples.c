@@ -5,7 +5,7 @@
 #include <stdio.h>
 
 static uint8_t file[65536];
-static size_t len;
+static uint64_t len;
 
 static void say(uint32_t answer)
 {

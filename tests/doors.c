@@ -107,7 +107,7 @@ static void put_trailer(uint8_t *at, uint32_t edition, uint32_t flag, uint32_t c
 }
 
 /* The file's length. The front is no zeros, so that bytes read from it show. */
-static size_t make(uint8_t *out, size_t front, const point *corners, uint32_t n, uint32_t flag)
+static uint64_t make(uint8_t *out, size_t front, const point *corners, uint32_t n, uint32_t flag)
 {
     uint8_t *at = out;
     for (size_t i = 0; i < front; i++)
@@ -145,7 +145,7 @@ static int in_domain(point p)
 }
 
 /* 0 where the file is good */
-static uint32_t file_code(const uint8_t *file, size_t len)
+static uint32_t file_code(const uint8_t *file, uint64_t len)
 {
     if (len < TRAILER)
         return 23;
@@ -176,7 +176,7 @@ static int is_counted(point p, point from, point to)
     return crosses_seam != between && (z < 0 ? north < 0 : north > 0);
 }
 
-static uint32_t answer_of(const uint8_t *file, size_t len, point p)
+static uint32_t answer_of(const uint8_t *file, uint64_t len, point p)
 {
     uint32_t code = file_code(file, len);
     if (code != 0)
@@ -193,28 +193,28 @@ static uint32_t answer_of(const uint8_t *file, size_t len, point p)
 
 /* ---- the doors */
 
-static uint32_t contains(const uint8_t *file, size_t len, point p)
+static uint32_t contains(const uint8_t *file, uint64_t len, point p)
 {
     return jigwandor_contains(file, len, p.x, p.y, p.z, p.lon, p.lat);
 }
 
-static uint32_t hold(uint8_t *file, size_t len, point p)
+static uint32_t hold(uint8_t *file, uint64_t len, point p)
 {
     return jigwandor_hold(file, len, p.x, p.y, p.z, p.lon, p.lat);
 }
 
-static int same(const uint8_t *a, const uint8_t *b, size_t len)
+static int same(const uint8_t *a, const uint8_t *b, uint64_t len)
 {
     return len == 0 || memcmp(a, b, len) == 0;
 }
 
-static void contains_at(const uint8_t *at, const uint8_t *file, size_t len, point p, uint32_t want)
+static void contains_at(const uint8_t *at, const uint8_t *file, uint64_t len, point p, uint32_t want)
 {
     check_answer(contains(at, len, p), want, "contains");
     check(same(at, file, len), "contains changed a byte");
 }
 
-static void hold_at(uint8_t *at, const uint8_t *file, size_t len, point p, uint32_t want)
+static void hold_at(uint8_t *at, const uint8_t *file, uint64_t len, point p, uint32_t want)
 {
     static uint8_t after[ROOM];
     if (want >= 16) {
@@ -247,7 +247,7 @@ static void open_pages(void)
     check(mprotect(pages, room, PROT_READ | PROT_WRITE) == 0, "not writable");
 }
 
-static void in_pages(size_t before, const uint8_t *file, size_t len, point p, uint32_t want)
+static void in_pages(size_t before, const uint8_t *file, uint64_t len, point p, uint32_t want)
 {
     uint8_t *at = pages + before;
     memset(pages, 0x5A, room);
@@ -266,7 +266,7 @@ static void in_pages(size_t before, const uint8_t *file, size_t len, point p, ui
 }
 
 /* `shift` bytes behind the start of a block that ends with the file */
-static void in_heap(size_t shift, const uint8_t *file, size_t len, point p, uint32_t want)
+static void in_heap(size_t shift, const uint8_t *file, uint64_t len, point p, uint32_t want)
 {
     uint8_t *block = malloc(shift + len);
     if (block == NULL)
@@ -284,7 +284,7 @@ static void in_heap(size_t shift, const uint8_t *file, size_t len, point p, uint
 }
 
 /* Both doors on copies of the file. An empty one stands one past the end of its block. */
-static void both(const uint8_t *file, size_t len, point p, uint32_t want)
+static void both(const uint8_t *file, uint64_t len, point p, uint32_t want)
 {
     in_heap(len == 0, file, len, p, want);
     in_pages(0, file, len, p, want);
@@ -292,7 +292,7 @@ static void both(const uint8_t *file, size_t len, point p, uint32_t want)
 }
 
 /* An answer that was worked out by hand: it tests `answer_of` too. */
-static void fixed(const char *what, const uint8_t *file, size_t len, point p, uint32_t want)
+static void fixed(const char *what, const uint8_t *file, uint64_t len, point p, uint32_t want)
 {
     now("%s", what);
     check_answer(answer_of(file, len, p), want, "this test itself");
@@ -325,14 +325,14 @@ static void square_and_one_corner(void)
     const point corner = {1, 0, 0, 0, 0}, half = {0, 0.5, 0.5, 1.5, 0.5}, third = {0.5, 0.5, 0.25, 0.75, 0.3};
 
     for (uint32_t flag = 0; flag < 2; flag++) {
-        size_t len = make(file, 0, square, 4, flag);
+        uint64_t len = make(file, 0, square, 4, flag);
         fixed("square, north", file, len, north, 1 ^ flag);
         fixed("square, south", file, len, south, flag);
         fixed("square, a corner itself: dot product 0", file, len, corner, flag);
         fixed("square, one edge counts", file, len, half, 1 ^ flag);
         fixed("square before the put", file, len, third, 1 ^ flag);
     }
-    size_t len = make(file, 0, square, 4, 0);
+    uint64_t len = make(file, 0, square, 4, 0);
     now("square, trailer");
     check(same(file + len - TRAILER, trailer, TRAILER), "this test itself wrote another");
 
@@ -397,7 +397,7 @@ static void ranges(void)
 
     /* next to PI, and next to the ends */
     point corners[2] = {{1, 0, 0, 0, 0}, {0, 0, 1, nextafter(PI, 4), 0}};
-    size_t len = make(file, 0, corners, 2, 0);
+    uint64_t len = make(file, 0, corners, 2, 0);
     fixed("a step just above PI, at 1", file, len, (point){0, 1, 0, 1, 0}, 0);
     fixed("a step just above PI, at 4", file, len, (point){0, 1, 0, 4, 0}, 1);
     corners[1].lon = PI;
@@ -447,7 +447,7 @@ static void seam_and_poles(void)
                 point corners64[MOST];
                 char what[100];
                 ring(corners64, counts[i], lats[j]);
-                size_t len = make(file, 0, corners64, counts[i], flag);
+                uint64_t len = make(file, 0, corners64, counts[i], flag);
                 snprintf(what, sizeof what, "ring of %u at latitude %g, flag %u", (unsigned)counts[i], lats[j], (unsigned)flag);
                 fixed(what, file, len, at(0, -HALF_PI), flag);
                 fixed(what, file, len, at(0, HALF_PI), 1 ^ flag);
@@ -470,7 +470,7 @@ static void fronts(void)
         for (size_t shift = 0; shift < 8; shift++) {
             char what[100];
             snprintf(what, sizeof what, "%lu bytes in front, %lu off", (unsigned long)lengths[i], (unsigned long)shift);
-            size_t len = make(file, lengths[i], square, 4, 0);
+            uint64_t len = make(file, lengths[i], square, 4, 0);
             fixed(what, file, len, north, 1);
             in_heap(shift, file, len, north, 1);
             in_heap(shift, file, len, south, 0);
@@ -482,7 +482,7 @@ static void fronts(void)
         }
 
     /* Another region file in front; without the one behind it, it is read. */
-    size_t first = make(file, 0, square, 1, 1), len = first + make(file + first, 0, square, 4, 0);
+    uint64_t first = make(file, 0, square, 1, 1), len = first + make(file + first, 0, square, 4, 0);
     fixed("a file behind a file", file, len, south, 0);
     fixed("the file in front alone", file, first, south, 1);
 
@@ -545,7 +545,7 @@ static void trailer_by_hand(void)
     };
     const point bad = {NAN, NAN, NAN, NAN, NAN};
     for (size_t i = 0; i < sizeof cases / sizeof *cases; i++) {
-        size_t len = make(file, 0, square, 4, 0);
+        uint64_t len = make(file, 0, square, 4, 0);
         put_trailer(file + len - TRAILER, cases[i].edition, cases[i].flag, cases[i].count, cases[i].distance);
         fixed(cases[i].what, file, len, north, cases[i].want);
         /* the file is tested before the point */
@@ -561,7 +561,7 @@ static void trailer_by_hand(void)
     /* Counts around 64 where the file has room for more. */
     point corners[MOST];
     ring(corners, MOST, -1);
-    size_t len = make(file, 400, corners, MOST, 1);
+    uint64_t len = make(file, 400, corners, MOST, 1);
     fixed("count 64", file, len, at(0.1, -1.4), 1);
     put_trailer(file + len - TRAILER, 1, 1, 65, 65 * CORNER + TRAILER);
     fixed("count 65 with 65 corners' bytes", file, len, at(0.1, -1.4), 19);
@@ -569,7 +569,7 @@ static void trailer_by_hand(void)
     fixed("one byte short of count 64", file + 1, len - 1, at(0.1, -1.4), 23);
 }
 
-static void every_trailer_byte(const char *what, const uint8_t *good, size_t len, point p)
+static void every_trailer_byte(const char *what, const uint8_t *good, uint64_t len, point p)
 {
     static uint8_t file[ROOM];
     for (size_t i = len - TRAILER; i < len; i++)
@@ -581,7 +581,7 @@ static void every_trailer_byte(const char *what, const uint8_t *good, size_t len
         }
 }
 
-static void every_corner_bit(const char *what, const uint8_t *good, size_t len, point p)
+static void every_corner_bit(const char *what, const uint8_t *good, uint64_t len, point p)
 {
     static uint8_t file[ROOM];
     for (size_t i = 0; i < len - TRAILER; i++)
@@ -593,7 +593,7 @@ static void every_corner_bit(const char *what, const uint8_t *good, size_t len, 
         }
 }
 
-static void every_length(const char *what, const uint8_t *good, size_t len, point p)
+static void every_length(const char *what, const uint8_t *good, uint64_t len, point p)
 {
     for (size_t cut = 0; cut <= len; cut++) {
         now("%s, %lu bytes cut off behind", what, (unsigned long)cut);
@@ -608,7 +608,7 @@ static void damage(void)
     static uint8_t file[ROOM];
     point corners[MOST];
     ring(corners, MOST, -1);
-    size_t len = make(file, 0, square, 4, 0);
+    uint64_t len = make(file, 0, square, 4, 0);
     every_trailer_byte("square", file, len, north);
     every_corner_bit("square", file, len, north);
     every_length("square", file, len, north);
@@ -667,7 +667,7 @@ static size_t borders(int i, double *values, size_t *good)
 }
 
 /* NaN patterns in the file, the signalling ones included, are set by their bits. */
-static void nan_patterns(uint8_t *file, size_t len, uint8_t *at_field)
+static void nan_patterns(uint8_t *file, uint64_t len, uint8_t *at_field)
 {
     static const uint64_t patterns[] = {
         UINT64_C(0x7FF0000000000001), UINT64_C(0x7FF4000000000000), UINT64_C(0x7FF7FFFFFFFFFFFF), UINT64_C(0x7FF8000000000000),
@@ -694,7 +694,7 @@ static void domain(void)
                 for (size_t v = 0; v < n; v++) {
                     ring(corners, counts[c], 0.7);
                     *field(&corners[k], i) = values[v];
-                    size_t len = make(file, 1, corners, counts[c], 1);
+                    uint64_t len = make(file, 1, corners, counts[c], 1);
                     snprintf(what, sizeof what, "corner %u of %u, field %d is %a", (unsigned)k, (unsigned)counts[c], i, values[v]);
                     now("%s", what);
                     check(file_code(file, len) == (v < good ? 0 : 17), "this test itself");
@@ -703,7 +703,7 @@ static void domain(void)
                     fixed(what, file, len, bad_point, 17);
                 }
                 ring(corners, counts[c], 0.7);
-                size_t len = make(file, 1, corners, counts[c], 1);
+                uint64_t len = make(file, 1, corners, counts[c], 1);
                 nan_patterns(file, len, file + 1 + CORNER * k + 8 * (size_t)i);
             }
 
@@ -721,7 +721,7 @@ static void domain(void)
             point p = at(0.1, -1.4);
             *field(&p, i) = values[v];
             ring(corners, MOST, -1);
-            size_t len = make(file, 0, corners, MOST, 1);
+            uint64_t len = make(file, 0, corners, MOST, 1);
             snprintf(what, sizeof what, "a point, field %d is %a", i, values[v]);
             now("%s", what);
             check(in_domain(p) == (v < good), "this test itself");
