@@ -6,17 +6,21 @@ SEED ?= 1
 COUNT ?= 200000
 LISTS ?= 10000
 
-.PHONY: help setup setup-c demo lib test doors differential lists fixed-list bench
+.PHONY: help setup setup-c demo lib camera test doors camera-test flips differential lists fixed-list bench camera-bench
 
 help:
 	@echo 'make demo          runs the example: makes a region file and asks the C doors who is inside'
 	@echo 'make lib           build/libjigwandor.a and build/jigwandor.h, for C programs'
+	@echo 'make camera        build/camera/libjigwandor.a for a Cortex-M0 or M0+, and build/camera/jigwandor.wasm'
 	@echo 'make test          the whole gate: proofs, must-fail edits, fixed list, docs/CALLS.md and docs/TRACE.md, C tests, comparison with upstream'
 	@echo 'make doors         the C tests alone'
+	@echo 'make camera-test   the tests on the emulated core and as WebAssembly alone'
+	@echo 'make flips         counts what single flipped bits of the example file do'
 	@echo 'make differential  SEED=n COUNT=n: compares that many requests with upstream'
 	@echo 'make lists         SEED=n LISTS=n: compares that many lists of 1 to 200 edits with upstream'
 	@echo 'make bench         measures the calls beside upstream and writes docs/BENCHMARKS.md; no test'
 	@echo 'make bench ROWS=x  prints the times of the rows whose names contain x, and writes nothing'
+	@echo 'make camera-bench  counts instructions and cycles on the emulated core, for docs/CAMERA.md; no test'
 	@echo 'make fixed-list    makes the fixed list of crates/replay anew from upstream'
 	@echo 'make setup         installs what is missing, by package name'
 
@@ -36,9 +40,21 @@ lib:
 	@c/build
 	@echo 'build/libjigwandor.a, for x86-64 Linux; it needs the C library alone: cc -Ibuild program.c build/libjigwandor.a'
 
+camera:
+	@camera/build
+	@echo 'build/camera/libjigwandor.a and jigwandor.h, for a Cortex-M0 or M0+; build/camera/jigwandor.wasm. docs/CAMERA.md says how to link them'
+
 doors: setup-c
+	@tests/need python3 python3
 	@tests/doors
 	@tests/demo
+
+camera-test: setup-c
+	@tests/need python3 python3
+	@tests/camera
+
+flips: setup-c
+	@tests/flips
 
 test: setup
 	@tests/run '$(UPSTREAM)'
@@ -54,3 +70,7 @@ fixed-list: setup
 
 bench:
 	@bench/run '$(UPSTREAM)' '$(ROWS)'
+
+camera-bench: setup-c
+	@tests/need python3 python3
+	@camera/bench
