@@ -9,7 +9,7 @@ LISTS ?= 10000
 .PHONY: help setup setup-c demo lib camera test doors camera-test flips differential lists fixed-list bench camera-bench
 
 help:
-	@echo 'make demo          runs the example: makes a region file and asks the C doors who is inside'
+	@echo 'make demo          runs the example: makes a region file, draws its map by asking the C function, tells which fixes are inside'
 	@echo 'make lib           build/libjigwandor.a and build/jigwandor.h, for C programs'
 	@echo 'make camera        build/camera/libjigwandor.a for a Cortex-M0 or M0+, and build/camera/jigwandor.wasm'
 	@echo 'make test          the whole gate: proofs, must-fail edits, fixed list, docs/CALLS.md and docs/TRACE.md, C tests, comparison with upstream'

@@ -1,4 +1,7 @@
-/* demo FILE: who is inside the file's region, and who is after the region was made to hold a fix that was outside. */
+/*
+ * demo FILE [FIXES]: a map of a region file in characters, drawn by asking jigwandor_contains cell by cell, and below it what
+ * the call answers for fixes: lines 'longitude latitude name' of the file FIXES, in degrees.
+ */
 #include "jigwandor.h"
 
 #include <math.h>
@@ -7,87 +10,206 @@
 
 #define DEGREE (0x1.921fb54442d18p+1 / 180)
 
-struct fix {
-    const char *name;
+enum { COLUMNS = 72, ROWS = 26, MOST_FIXES = 26, TRAILER = 16, CORNER = 40 };
+
+typedef struct {
     double lon, lat; /* degrees */
-};
+    char name[40];
+} fix;
 
-static const struct fix fixes[] = {
-    {"seal 1, Bouvet Island", 3.4, -54.4},
-    {"seal 2, just west of the seam", 359.9, -54.0},
-    {"seal 3, on the seam as 0", 0.0, -54.0},
-    {"seal 4, on the seam as 360", 360.0, -54.0},
-    {"seal 5, further west", 355.2, -54.0},
-    {"seal 6, further east", 5.7, -54.0},
-    {"seal 7, west of the water", 345.0, -54.0},
-    {"petrel 1, Cape Town", 18.4, -33.9},
-    {"petrel 2, South Georgia", 323.5, -54.3},
-    {"petrel 3, near the south pole", 0.1, -89.9},
-    {"petrel 4, near the north pole", 359.9, 89.9},
-    {"tag 9, west given below 0", -4.8, -54.0},
-};
+static uint8_t file[65536];
+static uint64_t len;
 
-enum { FIXES = sizeof fixes / sizeof *fixes, HELD_FIX = 8 };
-
-static uint32_t ask(const uint8_t *file, uint64_t len, struct fix fix)
+static uint32_t ask(const uint8_t *bytes, double lon_degrees, double lat_degrees)
 {
-    double lon = fix.lon * DEGREE, lat = fix.lat * DEGREE;
-    return jigwandor_contains(file, len, cos(lat) * cos(lon), cos(lat) * sin(lon), sin(lat), lon, lat);
+    double lon = lon_degrees * DEGREE, lat = lat_degrees * DEGREE;
+    return jigwandor_contains(bytes, len, cos(lat) * cos(lon), cos(lat) * sin(lon), sin(lat), lon, lat);
 }
 
-static uint32_t hold(uint8_t *file, uint64_t len, struct fix fix)
+static uint32_t hold(uint8_t *bytes, double lon_degrees, double lat_degrees)
 {
-    double lon = fix.lon * DEGREE, lat = fix.lat * DEGREE;
-    return jigwandor_hold(file, len, cos(lat) * cos(lon), cos(lat) * sin(lon), sin(lat), lon, lat);
+    double lon = lon_degrees * DEGREE, lat = lat_degrees * DEGREE;
+    return jigwandor_hold(bytes, len, cos(lat) * cos(lon), cos(lat) * sin(lon), sin(lat), lon, lat);
 }
 
-static const char *words(uint32_t answer)
+static void say_answer(uint32_t answer)
 {
-    switch (answer) {
-    case JIGWANDOR_OUTSIDE:
-        return "outside";
-    case JIGWANDOR_INSIDE:
-        return "INSIDE";
-    case JIGWANDOR_OUTSIDE_DOMAIN:
-        return "refused: a number outside its bounds";
-    case JIGWANDOR_NO_CORNER:
-        return "refused: no corner";
-    case JIGWANDOR_TOO_MANY_CORNERS:
-        return "refused: more than 64 corners";
-    default:
-        return "refused: not a region file";
+    if (answer == JIGWANDOR_INSIDE)
+        printf("INSIDE");
+    else if (answer == JIGWANDOR_OUTSIDE)
+        printf("outside");
+    else
+        printf("refused: %s", jigwandor_refusal_name(answer));
+}
+
+/* ---- the part of the world that is drawn */
+
+static uint32_t corner_count(void)
+{
+    const uint8_t *at = file + len - 8;
+    return at[0] | (uint32_t)at[1] << 8 | (uint32_t)at[2] << 16 | (uint32_t)at[3] << 24;
+}
+
+/* A corner's longitude (field 3) or latitude (field 4), in degrees. This demo runs where doubles are little-endian. */
+static double corner(uint32_t i, int field)
+{
+    double value;
+    memcpy(&value, file + len - TRAILER - CORNER * (corner_count() - i) + 8 * field, sizeof value);
+    return value / DEGREE;
+}
+
+static double east_of(double from, double lon)
+{
+    double east = fmod(lon - from, 360);
+    return east < 0 ? east + 360 : east;
+}
+
+static double west, south, width, height; /* of the map and of a cell, degrees */
+
+/* All corners with a margin, or the whole world where they span more than half of it. */
+static void choose_window(void)
+{
+    double first = 0, span = 360, low = 90, high = -90;
+    for (uint32_t i = 0; i < corner_count(); i++) {
+        double east = 0;
+        for (uint32_t k = 0; k < corner_count(); k++)
+            east = fmax(east, east_of(corner(i, 3), corner(k, 3)));
+        if (east < span) {
+            span = east;
+            first = corner(i, 3);
+        }
+        low = fmin(low, corner(i, 4));
+        high = fmax(high, corner(i, 4));
     }
+    if (span > 180 || corner_count() < 3) {
+        west = 0;
+        south = -90;
+        width = 360.0 / COLUMNS;
+        height = 180.0 / ROWS;
+        return;
+    }
+    /* a character is about twice as high as it is wide */
+    double squeeze = 2 * cos((low + high) / 2 * DEGREE);
+    width = fmax(1.7 * span / COLUMNS, 1.5 * (high - low) / ROWS / squeeze);
+    width = fmax(width, 1e-6);
+    height = fmin(width * squeeze, 180.0 / ROWS);
+    west = first + span / 2 - width * COLUMNS / 2;
+    south = fmin(fmax((low + high) / 2 - height * ROWS / 2, -90), 90 - height * ROWS);
+}
+
+/* Where a place stands on the map: its column and row, or no. */
+static int cell_of(double lon, double lat, int *column, int *row)
+{
+    *column = (int)(east_of(west, lon) / width);
+    *row = (int)floor((south + height * ROWS - lat) / height);
+    return *column < COLUMNS && *row >= 0 && *row < ROWS;
+}
+
+static char map[ROWS][COLUMNS];
+
+static int is_inside(int row, int column)
+{
+    double lon = east_of(0, west + (column + 0.5) * width), lat = south + (ROWS - row - 0.5) * height;
+    return ask(file, lon, lat) == JIGWANDOR_INSIDE;
+}
+
+/* '+' inside, '#' inside with a cell beside it that is not, '.' outside */
+static void draw(void)
+{
+    static int inside[ROWS][COLUMNS];
+    for (int r = 0; r < ROWS; r++)
+        for (int c = 0; c < COLUMNS; c++)
+            inside[r][c] = is_inside(r, c);
+    for (int r = 0; r < ROWS; r++)
+        for (int c = 0; c < COLUMNS; c++) {
+            int border = (r > 0 && !inside[r - 1][c]) || (r + 1 < ROWS && !inside[r + 1][c]) || (c > 0 && !inside[r][c - 1]) ||
+                         (c + 1 < COLUMNS && !inside[r][c + 1]);
+            map[r][c] = !inside[r][c] ? '.' : border ? '#' : '+';
+        }
+}
+
+static void print_map(void)
+{
+    for (int r = 0; r < ROWS; r++) {
+        if (r % 5 == 2)
+            printf("%7.1f", south + (ROWS - r - 0.5) * height);
+        else
+            printf("%7s", "");
+        printf("  %.*s\n", COLUMNS, map[r]);
+    }
+    printf("         ");
+    for (int c = 0; c < COLUMNS; c += 12)
+        printf(c + 12 < COLUMNS ? "|%-11.1f" : "|%.1f", east_of(0, west + (c + 0.5) * width));
+    printf("\n\n");
+}
+
+/* ---- fixes */
+
+static int read_fixes(const char *name, fix *fixes)
+{
+    FILE *in = name ? fopen(name, "r") : NULL;
+    int n = 0;
+    if (in == NULL)
+        return 0;
+    while (n < MOST_FIXES && fscanf(in, "%lf %lf %39[^\n]", &fixes[n].lon, &fixes[n].lat, fixes[n].name) == 3)
+        n++;
+    fclose(in);
+    return n;
+}
+
+static void print_table(const fix *fixes, int n)
+{
+    static uint8_t copy[sizeof file];
+    int held = -1;
+    memcpy(copy, file, len);
+    for (int i = 0; i < n && held < 0; i++)
+        if (ask(file, fixes[i].lon, fixes[i].lat) == JIGWANDOR_OUTSIDE && hold(copy, fixes[i].lon, fixes[i].lat) == JIGWANDOR_HELD)
+            held = i;
+    printf("   %-32s%9s%10s   %-10s%s\n", "fix", "longitude", "latitude", "answer", held < 0 ? "" : "after hold");
+    for (int i = 0; i < n; i++) {
+        uint32_t before = ask(file, fixes[i].lon, fixes[i].lat), after = ask(copy, fixes[i].lon, fixes[i].lat);
+        printf("%c  %-32s%9.1f%10.1f   ", 'A' + i, fixes[i].name, fixes[i].lon, fixes[i].lat);
+        say_answer(before);
+        if (before != after) {
+            printf("%*s", before == JIGWANDOR_INSIDE ? 4 : 3, "");
+            say_answer(after);
+        }
+        printf("\n");
+    }
+    if (held >= 0)
+        printf("\n'after hold': a copy of the file made to hold %c. The outline stays; the other side of it is inside.\n", 'A' + held);
 }
 
 int main(int argc, char **argv)
 {
-    static uint8_t file[65536], copy[sizeof file];
-    FILE *in = argc == 2 ? fopen(argv[1], "rb") : NULL;
+    static fix fixes[MOST_FIXES];
+    FILE *in = argc == 2 || argc == 3 ? fopen(argv[1], "rb") : NULL;
     if (in == NULL) {
-        fprintf(stderr, "usage: demo FILE\n");
+        fprintf(stderr, "usage: demo FILE [FIXES]\n");
         return 2;
     }
-    uint64_t len = fread(file, 1, sizeof file, in);
+    len = fread(file, 1, sizeof file, in);
     fclose(in);
+    int n = read_fixes(argc == 3 ? argv[2] : NULL, fixes);
 
-    memcpy(copy, file, len);
-    uint32_t held = hold(copy, len, fixes[HELD_FIX]);
-
-    printf("Film region: water round Bouvet Island, five corners on both sides of the meridian 0 (%lu bytes)\n\n",
-           (unsigned long)len);
-    printf("%-32s%9s%10s   %-10s%s\n", "fix", "longitude", "latitude", "answer", "after hold");
-    for (int i = 0; i < FIXES; i++) {
-        uint32_t before = ask(file, len, fixes[i]), after = ask(copy, len, fixes[i]);
-        printf("%-32s%9.1f%10.1f   ", fixes[i].name, fixes[i].lon, fixes[i].lat);
-        if (before == after)
-            printf("%s\n", words(before));
-        else
-            printf("%-10s%s\n", words(before), words(after));
+    uint32_t answer = ask(file, 0, 0);
+    if (JIGWANDOR_IS_REFUSAL(answer)) {
+        printf("%s: refused as %u, %s\n", argv[1], (unsigned)answer, jigwandor_refusal_name(answer));
+        return 1;
     }
-    if (held == JIGWANDOR_HELD)
-        printf("\n'after hold': a copy of the file made to hold %s. The outline stays;\nthe other side of it is inside.\n",
-               fixes[HELD_FIX].name);
-    else
-        printf("\nhold of %s: %s\n", fixes[HELD_FIX].name, words(held));
+    choose_window();
+    draw();
+    printf("%s, %lu bytes, %u corners: + and # are filmed, # is the outline's inner side, o its corners%s\n\n", argv[1],
+           (unsigned long)len, (unsigned)corner_count(), n > 0 ? ", letters are fixes" : "");
+    int column, row;
+    for (uint32_t i = 0; i < corner_count(); i++)
+        if (cell_of(corner(i, 3), corner(i, 4), &column, &row))
+            map[row][column] = 'o';
+    for (int i = 0; i < n; i++)
+        if (!JIGWANDOR_IS_REFUSAL(ask(file, fixes[i].lon, fixes[i].lat)) && cell_of(fixes[i].lon, fixes[i].lat, &column, &row))
+            map[row][column] = (char)('A' + i);
+    print_map();
+    if (n > 0)
+        print_table(fixes, n);
     return 0;
 }
