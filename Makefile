@@ -5,13 +5,16 @@ UPSTREAM ?= ../shared/docs/src
 SEED ?= 1
 COUNT ?= 200000
 LISTS ?= 10000
+PREFIX ?= /usr/local
 
-.PHONY: help setup setup-c demo lib camera test doors camera-test flips differential lists fixed-list bench camera-bench
+.PHONY: help setup setup-c demo lib camera install dist test doors camera-test flips differential lists fixed-list bench camera-bench
 
 help:
 	@echo 'make demo          runs the example: makes a region file, draws its map by asking the C function, tells which fixes are inside'
 	@echo 'make lib           build/libjigwandor.a and build/jigwandor.h, for C programs'
 	@echo 'make camera        build/camera/libjigwandor.a for a Cortex-M0 or M0+, and build/camera/jigwandor.wasm'
+	@echo 'make install       PREFIX=/usr/local: the archive for x86-64 Linux, the header, a pkg-config file, a CMake config'
+	@echo 'make dist          build/dist/jigwandor-VERSION.tar.gz, for those who have no prover'
 	@echo 'make test          the whole gate: proofs, must-fail edits, fixed list, docs/CALLS.md and docs/TRACE.md, C tests, comparison with upstream'
 	@echo 'make doors         the C tests alone'
 	@echo 'make camera-test   the tests on the emulated core and as WebAssembly alone'
@@ -43,6 +46,17 @@ lib:
 camera:
 	@camera/build
 	@echo 'build/camera/libjigwandor.a and jigwandor.h, for a Cortex-M0 or M0+; build/camera/jigwandor.wasm. docs/CAMERA.md says how to link them'
+
+install:
+	@c/build
+	@c/install '$(PREFIX)' build/libjigwandor.a build/jigwandor.h
+	@echo 'installed below $(DESTDIR)$(PREFIX): pkg-config --cflags --libs jigwandor; CMake: find_package(jigwandor), jigwandor::jigwandor'
+
+dist:
+	@camera/build
+	@mkdir -p build/dist
+	@dist/pack "build/dist/jigwandor-$$(cat VERSION).tar.gz"
+	@ls build/dist/*-*.tar.gz
 
 doors: setup-c
 	@tests/need python3 python3

@@ -128,6 +128,11 @@
 
 #include <stdint.h>
 
+#define JIGWANDOR_VERSION "0.1.0"
+#define JIGWANDOR_VERSION_MAJOR 0
+#define JIGWANDOR_VERSION_MINOR 1
+#define JIGWANDOR_VERSION_PATCH 0
+
 #ifdef __cplusplus
 extern "C" {
 #endif
