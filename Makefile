@@ -40,10 +40,12 @@ demo:
 	@c/demo
 
 lib:
+	@echo 'proving what the archive stands on: some minutes the first time, seconds after that'
 	@c/build
 	@echo 'build/libjigwandor.a, for x86-64 Linux; it needs the C library alone: cc -Ibuild program.c build/libjigwandor.a'
 
 camera:
+	@echo 'proving what the archive stands on: some minutes the first time, seconds after that'
 	@camera/build
 	@echo 'build/camera/libjigwandor.a and jigwandor.h, for a Cortex-M0 or M0+; build/camera/jigwandor.wasm. docs/CAMERA.md says how to link them'
 
@@ -52,8 +54,7 @@ install:
 	@c/install '$(PREFIX)' build/libjigwandor.a build/jigwandor.h
 	@echo 'installed below $(DESTDIR)$(PREFIX): pkg-config --cflags --libs jigwandor; CMake: find_package(jigwandor), jigwandor::jigwandor'
 
-dist:
-	@camera/build
+dist: camera
 	@mkdir -p build/dist
 	@dist/pack "build/dist/jigwandor-$$(cat VERSION).tar.gz"
 	@ls build/dist/*-*.tar.gz

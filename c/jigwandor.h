@@ -65,9 +65,10 @@
  *
  * The corners are joined in the file's order, and the last with the first. An edge is the shorter great circle arc between
  * its corners, NOT a line on the map and NOT a parallel: between two corners of one latitude it runs nearer to the pole. A
- * ring of 12 corners along 60 S reaches 60.85 S in the middle of its edges, 95 km further south. docs/CALLS.md has a table of
- * how many corners keep a parallel within which distance. Between opposite meridians, half a turn of longitude apart, the
- * outline's direction may decide which way round an edge runs: put a corner in between.
+ * ring of 12 corners along 60 S reaches 60.85 S in the middle of its edges, 95 km further south. There 12 corners keep the
+ * outline within 100 km of the parallel, 17 within 50 km, 37 within 10 km, 53 within 5 km; docs/CALLS.md has the table for
+ * other latitudes. Between opposite meridians, half a turn of longitude apart, the outline's direction may decide which way
+ * round an edge runs: put a corner in between.
  *
  * The outline itself is half-open: a fix exactly on an edge is answered as the fixes just south of it are, and on an edge
  * along a meridian as the fixes just east of it. So of two regions with an edge in common one has it, and not both.
@@ -147,8 +148,8 @@ enum {
     JIGWANDOR_WRONG_TRAILER = 23
 };
 
-/* Whether an answer of either call is a refusal. It is true in C, as JIGWANDOR_INSIDE is: compare with the names above. */
-#define JIGWANDOR_IS_REFUSAL(answer) ((answer) >= 16u)
+/* Whether an answer of either call is a refusal. */
+#define JIGWANDOR_IS_REFUSAL(answer) ((answer) >= 16)
 
 /*
  * Whether the file's region contains the fix: JIGWANDOR_INSIDE, JIGWANDOR_OUTSIDE, or a refusal. Writes nothing.
