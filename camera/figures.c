@@ -85,6 +85,8 @@ int main(void)
     calls("contains-64", "hold-64", file_64, sizeof file_64, points_64);
     calls("contains-zigzag", "hold-zigzag", file_zigzag, sizeof file_zigzag, points_zigzag);
     beside();
+    LOOP("idle-region", bench_idle_region(REGION(64), points_64, 5 * n));
+    LOOP("idle-corners", bench_idle_corners(corners_64, LEN(corners_64), points_64, 5 * n));
     LOOP("build-4", bench_build(corners_4, LEN(corners_4), moved_4, 5 * n));
     LOOP("build-16", bench_build(corners_16, LEN(corners_16), moved_16, 5 * n));
     LOOP("build-64", bench_build(corners_64, LEN(corners_64), moved_64, 5 * n));
