@@ -75,6 +75,25 @@ static const char *outline_itself(uint32_t flag)
     return NOTHING;
 }
 
+/* An edge in common, a-b of the picture with the region north of it and b-c with the one east of it: one of the two has it. */
+static const char *edge_in_common(void)
+{
+    static const point north[4] = {{1, -0.5, 1, 1, 0.8}, {1, 0.5, 1, 2, 0.8}, {1, 0.5, 0.5, 2, 0.4}, {1, -0.5, 0.5, 1, 0.4}};
+    static const point east[4] = {{1, 0.5, 0.5, 2, 0.4}, {1, 1.5, 0.5, 3, 0.4}, {1, 1.5, -0.5, 3, -0.4}, {1, 0.5, -0.5, 2, -0.4}};
+    uint32_t ours;
+    make(picture, 4, 0);
+    ours = ask(1, 0, 0.5, 1.5, 0.4);
+    make(north, 4, 0);
+    if (ask(1, 0, 0.75, 1.5, 0.6) != JIGWANDOR_INSIDE || ours + ask(1, 0, 0.5, 1.5, 0.4) != 1)
+        return "an edge in common, north";
+    make(picture, 4, 0);
+    ours = ask(1, 0.5, 0, 2, 0);
+    make(east, 4, 0);
+    if (ask(1, 1, 0, 2.5, 0) != JIGWANDOR_INSIDE || ours + ask(1, 0.5, 0, 2, 0) != 1)
+        return "an edge in common, east";
+    return NOTHING;
+}
+
 /* Which way round an edge between opposite meridians runs: by the outline's direction, unless a corner stands in between. */
 static const char *opposite_meridians(void)
 {
@@ -156,6 +175,8 @@ const char *header_fault(void)
         fault = outline_itself(0);
     if (!fault)
         fault = outline_itself(1);
+    if (!fault)
+        fault = edge_in_common();
     if (!fault)
         fault = opposite_meridians();
     if (!fault)
