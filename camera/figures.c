@@ -110,6 +110,8 @@ int main(void)
     LOOP("cone-64", bench_cone(corners_64, LEN(corners_64), moved_64, 5 * n));
     LOOP("read-64", bench_read(file_64, sizeof file_64, sizeof file_64, n));
     LOOP("write-64", bench_write(REGION(64), moved_64, 5 * n, file, sizeof file));
+    LOOP("zone-new", bench_zone_new(bounds, 5 * n));
+    LOOP("zone-questions", bench_zone_questions(bounds, LEN(bounds), triples, 3 * n));
     LOOP("root", bench_root(radicands, n));
     leave(0);
     return 0;
