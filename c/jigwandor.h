@@ -9,9 +9,9 @@
  *
  * What it takes
  *
- *   stack    19,752 bytes for a call on a Cortex-M0 or M0+, and about as many on x86-64. A core without memory protection tells
- *            nothing of a stack that is too small: keep 20 KB free wherever a call is made.
- *   flash    10,420 bytes on a Cortex-M0, with what the calls need of the compiler's library and of the C library
+ *   stack    15,348 bytes for a call on a Cortex-M0 or M0+, and about as many on x86-64. A core without memory protection tells
+ *            nothing of a stack that is too small: keep 16 KB free wherever a call is made.
+ *   flash    9,908 bytes on a Cortex-M0, with what the calls need of the compiler's library and of the C library
  *   RAM      none beside the stack: no heap, no data, no bss
  *
  * docs/CAMERA.md is for firmware: what to link, times at 48 MHz, a linker script, a start-up and a whole program.
