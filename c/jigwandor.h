@@ -9,8 +9,8 @@
  *
  * What it takes
  *
- *   stack    15,348 bytes for a call on a Cortex-M0 or M0+, and about as many on x86-64. A core without memory protection tells
- *            nothing of a stack that is too small: keep 16 KB free wherever a call is made.
+ *   stack    15,348 bytes for a call on a Cortex-M0 or M0+, below 20 KB on x86-64. A core without memory protection tells
+ *            nothing of a stack that is too small: keep 16 KB free there wherever a call is made.
  *   flash    9,908 bytes on a Cortex-M0, with what the calls need of the compiler's library and of the C library
  *   RAM      none beside the stack: no heap, no data, no bss
  *
