@@ -99,8 +99,7 @@ fn point_at(s: &[f64], i: usize) -> Coo3D {
 }
 
 fn corners_of(s: &[f64]) -> [Coo3D; 64] {
-    let origin = Coo3D::origin();
-    let mut corners = [origin; 64];
+    let mut corners = [Coo3D::origin(); 64];
     let mut i: usize = 0;
     while i < 64 {
         let p = point_at(s, i);

@@ -226,11 +226,9 @@ pub fn contains_south_pole(r: Region, method: ContainsSouthPoleMethod) -> Decisi
 pub fn empty() -> Region
     ensures { λ r. ⌜ viewOf r ≡ empty false ⌝ }
 {
-    let origin = Coo3D::origin();
-    let zero = Vect3::zero();
     Region {
-        vertices: [origin; 64],
-        cross_products: [zero; 64],
+        vertices: [Coo3D::origin(); 64],
+        cross_products: [Vect3::zero(); 64],
         count: 0,
         contains_south_pole: false,
     }
@@ -257,10 +255,9 @@ pub fn build_flagged(points: [Coo3D; 64], count: usize, flag: bool) -> Built
     if count > 64 {
         return refused(Cause::TooManyPoints);
     }
-    let zero = Vect3::zero();
     let mut region = Region {
         vertices: points,
-        cross_products: [zero; 64],
+        cross_products: [Vect3::zero(); 64],
         count,
         contains_south_pole: flag,
     };
@@ -293,22 +290,20 @@ pub fn build_flagged(points: [Coo3D; 64], count: usize, flag: bool) -> Built
 pub fn build(points: [Coo3D; 64], count: usize, method: ContainsSouthPoleMethod) -> Built
     ensures { λ b. ⌜ Builds b (buildOf points count method) ⌝ }
 {
-    let built = build_flagged(points, count, false);
+    let mut built = build_flagged(points, count, false);
     let outcome = built.outcome;
     let Outcome::Done = outcome else {
         return built;
     };
-    let mut region = built.region;
-    let n = region.count;
-    match check_rule(method, n) {
-        RuleCheck::Refused(cause) => refused(cause),
+    match check_rule(method, built.region.count) {
+        RuleCheck::Refused(cause) => {
+            return refused(cause);
+        }
         RuleCheck::Rule(rule) => {
+            let region = built.region;
             let flag = flag_by_rule(region, rule);
-            region.contains_south_pole = flag;
-            Built {
-                region,
-                outcome: Outcome::Done,
-            }
+            built.region.contains_south_pole = flag;
         }
     }
+    built
 }

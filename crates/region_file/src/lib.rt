@@ -77,8 +77,7 @@ fn corners_at(s: &[u8], at: usize, count: usize) -> [Coo3D; 64]
     requires { ⌜ (count ≤ 64) × (at + 40 * count ≤ length (now s)) ⌝ }
     ensures { λ r. ⌜ take count r ≡ cornersAt (now (s .entry)) at count ⌝ }
 {
-    let origin = Coo3D::origin();
-    let mut corners = [origin; 64];
+    let mut corners = [Coo3D::origin(); 64];
     let mut i: usize = 0;
     while i < count {
         let p = corner_at(s, at + 40 * i);
