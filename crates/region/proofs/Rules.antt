@@ -57,19 +57,19 @@ pub rule-plain : (i : ℕ) (m k : ContainsSouthPoleMethod) → m ≡ k → ruleA
 rule-plain i m k e h = rw e (sym h)
 
 -- the control point of a rule that is handed back as it is, is handed back as it is
-pub point-in : (i : ℕ) (m : ContainsSouthPoleMethod) (p : Coo3D) → m ≡ ControlPointIn p → ruleAt i m ≡ answered m → pointAt i p ≡ answered p
-point-in i m p e h = go (pointAt i p) (sym (by-point-in i p) ∙ ap (ruleAt i) (sym e) ∙ h ∙ ap answered e)
-  where
-    go : (x : Answer Coo3D) → andThen x (λ q. answered (ControlPointIn q)) ≡ answered (ControlPointIn p) → x ≡ answered p
-    go (answered q) g = let z : q ≡ p = cc g in ap answered z
-    go (refused n vs) g = never g
+module _ (rule : Coo3D → ContainsSouthPoleMethod) (by-point : (i : ℕ) (p : Coo3D) → ruleAt i (rule p) ≡ andThen (pointAt i p) (λ q. answered (rule q))) (one-point : (q p : Coo3D) → rule q ≡ rule p → q ≡ p) where
+  point-kept : (p : Coo3D) (x : Answer Coo3D) → andThen x (λ q. answered (rule q)) ≡ answered (rule p) → x ≡ answered p
+  point-kept p (answered q) e = ap answered (one-point q p (same-answer e))
+  point-kept p (refused n vs) e = never e
 
-pub point-out : (i : ℕ) (m : ContainsSouthPoleMethod) (p : Coo3D) → m ≡ ControlPointOut p → ruleAt i m ≡ answered m → pointAt i p ≡ answered p
-point-out i m p e h = go (pointAt i p) (sym (by-point-out i p) ∙ ap (ruleAt i) (sym e) ∙ h ∙ ap answered e)
-  where
-    go : (x : Answer Coo3D) → andThen x (λ q. answered (ControlPointOut q)) ≡ answered (ControlPointOut p) → x ≡ answered p
-    go (answered q) g = let z : q ≡ p = cc g in ap answered z
-    go (refused n vs) g = never g
+  pub point-of : (i : ℕ) (m : ContainsSouthPoleMethod) (p : Coo3D) → m ≡ rule p → ruleAt i m ≡ answered m → pointAt i p ≡ answered p
+  point-of i m p e h = point-kept p (pointAt i p) (sym (by-point i p) ∙ ap (ruleAt i) (sym e) ∙ h ∙ ap answered e)
+
+pub one-point-in : (q p : Coo3D) → ControlPointIn q ≡ ControlPointIn p → q ≡ p
+one-point-in q p e = cc e
+
+pub one-point-out : (q p : Coo3D) → ControlPointOut q ≡ ControlPointOut p → q ≡ p
+one-point-out q p e = cc e
 
 -- ---- the side of a point that was checked, and the flag, tell whether an odd number of edges is counted there
 

@@ -1,8 +1,9 @@
 -- `region::flag_by_rule` meets its contract. Assumes nothing.
 use mathlib.Core.Path.{sym, ap, _∙_}
 use mathlib.Core.Bool.{not}
+use Rattle.region.specs.declared.ContainsSouthPoleMethod.the-variants.{ControlPointIn, ControlPointOut}
 use Rattle.region.specs.Poles.{ruleFlag}
-use Rattle.region.proofs.Rules.{point-in, point-out}
+use Rattle.region.proofs.Rules.{by-point-in, by-point-out, one-point-in, one-point-out, point-of}
 use borrow.Author.Needs.{needs}
 use Rattle.region.proofs.flag_by_rule.Statement.{statement}
 use Rattle.region.proofs.flag_by_rule.Tie as tie
@@ -29,13 +30,13 @@ enum-known-rule : tie.Need-enum-known-rule
 enum-known-rule c = search needs
 
 odd-at-requires : tie.Need-odd-at-requires
-odd-at-requires c κs = let p = c .before .before .before .before .pre in (p .0, p .1, point-in 0 _ _ (c .before .rule .given .1) (p .2))
+odd-at-requires c κs = let p = c .before .before .before .before .pre in (p .0, p .1, point-of ControlPointIn by-point-in one-point-in 0 _ _ (c .before .rule .given .1) (p .2))
 
 enum-known-rule-2 : tie.Need-enum-known-rule-2
 enum-known-rule-2 c = search needs
 
 odd-at-requires-2 : tie.Need-odd-at-requires-2
-odd-at-requires-2 c κs = let p = c .before .before .before .before .pre in (p .0, p .1, point-out 0 _ _ (c .before .rule2 .given .1) (p .2))
+odd-at-requires-2 c κs = let p = c .before .before .before .before .pre in (p .0, p .1, point-of ControlPointOut by-point-out one-point-out 0 _ _ (c .before .rule2 .given .1) (p .2))
 
 returns : tie.Need-returns
 unfolding ruleFlag
