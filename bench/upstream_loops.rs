@@ -1,5 +1,6 @@
 //! The same loops over upstream's Rust. The region file, which upstream has not, is read and written here as the oracle does.
 
+use std::f64::consts::PI;
 use std::hint::black_box;
 
 use upstream::sph_geom::cone::Cone;
@@ -126,12 +127,23 @@ pub fn parallel_all(polygon: &Polygon, triples: &[f64]) -> u64 {
     })
 }
 
+/// Upstream keeps no such number: a host counts by itself.
+#[inline]
+fn seam_count(polygon: &Polygon) -> u64 {
+    let corners = &polygon.vertices;
+    let mut from = &corners[corners.len() - 1];
+    let mut count = 0;
+    for to in corners.iter() {
+        count += u64::from((to.lon - from.lon).abs() > PI);
+        from = to;
+    }
+    count
+}
+
 #[inline]
 fn mix_polygon(sum: u64, polygon: &Polygon, k: usize) -> u64 {
-    mix_vector(
-        mix(mix(sum, 0), polygon.contains_south_pole.into()),
-        &polygon.cross_products[k],
-    )
+    let sum = mix(mix(sum, 0), polygon.contains_south_pole.into());
+    mix_vector(mix(sum, seam_count(polygon)), &polygon.cross_products[k])
 }
 
 #[inline(never)]

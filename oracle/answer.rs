@@ -157,7 +157,15 @@ fn answer_one(call: Call, request: &[u64], kept: &mut Kept, answer: &mut Vec<u64
             zone_rest(kept.zone.as_ref().ok_or(none)?, request, answer);
         }
         Call::BoundingCone => bounding_cone(request, answer)?,
-        Call::RegionValue => kept.region = region_value(request).map(Region::handed_in),
+        Call::RegionValue => {
+            kept.region = region_value(request[0], request[1], &request[2..])
+                .map(|polygon| Region::handed_in(polygon, 0));
+        }
+        Call::SeamCount => answer.push(edited(kept)?.seam_count),
+        Call::SeamedValue => {
+            kept.region = region_value(request[0], request[1], &request[3..])
+                .map(|polygon| Region::handed_in(polygon, request[2]));
+        }
     }
     Ok(())
 }
@@ -236,9 +244,8 @@ fn build(request: &[u64]) -> Answer<Polygon> {
     Ok(Polygon::new_custom_vec3(corners.into(), &method))
 }
 
-fn region_value(request: &[u64]) -> Answer<Polygon> {
-    let (count, flag) = (request[0], request[1]);
-    let (corners, normals) = request[2..].split_at(MOST_POINTS as usize * POINT_WORDS);
+fn region_value(count: u64, flag: u64, lists: &[u64]) -> Answer<Polygon> {
+    let (corners, normals) = lists.split_at(MOST_POINTS as usize * POINT_WORDS);
     count_fits(count)?;
     Ok(Polygon {
         vertices: corners

@@ -1,6 +1,8 @@
 //! In which case of upstream's parallel calls an edge falls: our own reading of its conditions,
 //! for compare's report alone. No comparison rests on it.
 
+use std::f64::consts::PI;
+
 use stream::{bytes_and_rest, Call, MOST_POINTS, POINT_WORDS};
 
 use crate::edges::{cross, doubles, entries, vector, Kept, Point, Vector};
@@ -35,6 +37,18 @@ pub const NAMES: [&str; 9] = [
 /// How many edges fell in each case.
 pub type Counts = [u64; NAMES.len()];
 
+/// How many edges have a longitude step of each of these sizes.
+pub type Steps = [u64; STEPS.len()];
+
+pub const STEPS: [&str; 6] = [
+    "below these",
+    "next below PI",
+    "of exactly PI",
+    "next above PI",
+    "above these",
+    "that is a NaN",
+];
+
 impl Kept {
     /// What a request that was not refused leaves.
     pub fn follow(&mut self, call: Call, request: &[u64]) {
@@ -42,7 +56,8 @@ impl Kept {
             Call::Build => {
                 *self = Kept::built(entries(&request[2 + POINT_WORDS..]).collect());
             }
-            Call::RegionValue => *self = handed_in(request),
+            Call::RegionValue => *self = handed_in(request[0], &request[2..]),
+            Call::SeamedValue => *self = handed_in(request[0], &request[3..]),
             Call::ReadFile => {
                 let (file, _) = bytes_and_rest(request);
                 *self = Kept::read(&file).unwrap_or_default();
@@ -52,6 +67,26 @@ impl Kept {
             Call::Remove => self.remove(request[0]),
             // The others leave corners and normals as they are.
             _ => {}
+        }
+    }
+
+    /// Adds every edge by its absolute longitude step.
+    pub fn count_steps(&self, steps: &mut Steps) {
+        let Some(mut start) = self.corners.last() else {
+            return;
+        };
+        for end in &self.corners {
+            let size = (end[3] - start[3]).abs();
+            let which = match size.to_bits().wrapping_sub(PI.to_bits()) {
+                u64::MAX => 1,
+                0 => 2,
+                1 => 3,
+                _ if size > PI => 4,
+                _ if size.is_nan() => 5,
+                _ => 0,
+            };
+            steps[which] += 1;
+            start = end;
         }
     }
 
@@ -73,12 +108,12 @@ impl Kept {
 }
 
 /// A value of a wrong count holds no edge.
-fn handed_in(request: &[u64]) -> Kept {
-    let count = match request[0] {
+fn handed_in(count: u64, lists: &[u64]) -> Kept {
+    let count = match count {
         count @ 0..=MOST_POINTS => count as usize,
         _ => 0,
     };
-    let (corners, normals) = request[2..].split_at(MOST_POINTS as usize * POINT_WORDS);
+    let (corners, normals) = lists.split_at(MOST_POINTS as usize * POINT_WORDS);
     Kept {
         corners: entries(corners).take(count).collect(),
         normals: entries(normals).take(count).collect(),

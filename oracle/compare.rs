@@ -101,6 +101,8 @@ struct Tally {
     sizes: Vec<([u64; 4], u64)>,
     /// Over the parallel's requests that were not refused for their arguments.
     cases: cases::Counts,
+    /// Over the edges of the regions whose seam count was asked for.
+    steps: cases::Steps,
 }
 
 const CLASSES: [&str; 4] = ["finite", "zero", "infinite", "NaN"];
@@ -140,6 +142,7 @@ impl Tally {
                     region.count(request, true, &mut self.cases);
                 }
                 Call::ParallelAll => region.count(request, false, &mut self.cases),
+                Call::SeamCount => region.count_steps(&mut self.steps),
                 _ => {}
             }
         }
@@ -176,10 +179,15 @@ impl Tally {
                 Part::YesNo(name) => detail(&format!("{name}: no {none}, yes {one}")),
                 Part::Found(name) => detail(&format!("{name}: none {none}, one {one}")),
                 Part::Number(name) => detail(&format!("{name}: at most {greatest}")),
-                Part::Count(name) => detail(&format!(
+                Part::Count(name) | Part::Tally(name) => detail(&format!(
                     "{name} 0: {none}, 1: {one}, 2: {two}, 3 or more: {more}, at most {greatest}"
                 )),
                 _ => {}
+            }
+        }
+        if kind.call == Call::SeamCount {
+            for (name, count) in cases::STEPS.iter().zip(&self.steps) {
+                detail(&format!("edges with a step {name}: {count}"));
             }
         }
     }
@@ -294,7 +302,8 @@ fn compare(requests: &str, a: &str, b: &str) -> Result<bool, String> {
                 | Call::ParallelFirst
                 | Call::ParallelAll
                 | Call::IsIntersectingParallel
-                | Call::WriteFile => region.print("the region kept"),
+                | Call::WriteFile
+                | Call::SeamCount => region.print("the region kept"),
                 Call::Build
                 | Call::ReadFile
                 | Call::DoorContains
@@ -302,7 +311,8 @@ fn compare(requests: &str, a: &str, b: &str) -> Result<bool, String> {
                 | Call::Root
                 | Call::ZoneNew
                 | Call::BoundingCone
-                | Call::RegionValue => {}
+                | Call::RegionValue
+                | Call::SeamedValue => {}
             }
             for (side, other) in [(&a, &b), (&b, &a)] {
                 println!("answer in {}:", side.stream.path);
@@ -315,7 +325,9 @@ fn compare(requests: &str, a: &str, b: &str) -> Result<bool, String> {
         let outcome = a.answer[0];
         match kind.call {
             Call::ZoneNew if outcome == status::DONE => zone.set(row, &request),
-            Call::Build | Call::ReadFile | Call::RegionValue if outcome == status::DONE => {
+            Call::Build | Call::ReadFile | Call::RegionValue | Call::SeamedValue
+                if outcome == status::DONE =>
+            {
                 region.set(row, &request);
             }
             call if EDITS.contains(&call) => region.edit(row, outcome, &request),

@@ -3,25 +3,26 @@
 //!
 //! Of a hundred requests outside a list (`CALL_SHARES`)
 //!
-//! - 12 are builds, 8 files to read and 4 region values; after every second one the region is
-//!   asked for besides (`REGION_SHARE`), after every eighth its file (`WRITE_SHARE`), and after
+//! - 12 are builds, 8 files to read and 6 region values, 4 of them with a seam count, often a wrong
+//!   one; after every second one the region is asked for besides (`REGION_SHARE`), after every
+//!   fourth its seam count (`SEAM_SHARE`), after every eighth its file (`WRITE_SHARE`), and after
 //!   some a list of edits begins (`LIST_AFTER_BUILD`, `LIST_AFTER_FULL_BUILD`, `LIST_AFTER_READ`,
 //!   `LIST_AFTER_VALUE`), so that about six requests of ten stand in lists;
-//! - 3 ask for the region's file;
+//! - 3 ask for the region's seam count, and 3 for its file;
 //! - 14 are C doors: 7 contains, 7 hold;
-//! - 8 ask whether a point is contained;
+//! - 7 ask whether a point is contained;
 //! - 12 are arcs: 5 first, 5 all, 2 is intersecting;
 //! - 5 are great circles;
 //! - 13 are parallels: 5 first, 6 all, 2 is intersecting;
-//! - 6 are roots, 4 new zones, 6 questions to the zone kept and 5 bounding cones.
+//! - 5 are roots, 4 new zones, 4 questions to the zone kept and 4 bounding cones.
 //!
 //! A list has 1 to 200 edits, whose shares stand in edits.rs. Of a hundred requests in it 40 are
-//! questions to the region (`QUESTION_SHARE`): 11 ask for the region, 11 whether a point is
-//! contained, 14 are arcs, great circles and parallels, 4 ask for the region's file; and of a
+//! questions to the region (`QUESTION_SHARE`): 9 ask for the region, 5 for its seam count, 8
+//! whether a point is contained, 14 are arcs, great circles and parallels, 4 ask for its file; and of a
 //! thousand 4 are files to read (`QUESTION_SHARES`).
 //!
-//! In a run of lists each starts from a build that is not refused or, 15 of a hundred each, from a
-//! value or from a file that is not refused (`START_SHARES`). What is asked after an edit stands in
+//! In a run of lists each starts from a build that is not refused or, 18 of a hundred, from a value
+//! or, 15, from a file that is not refused (`START_SHARES`). What is asked after an edit stands in
 //! `AFTER_EDIT`.
 //!
 //! Each question and each edit is asked once at the start, before there is a region or a zone. From
@@ -69,10 +70,12 @@ const CLASS_SHARES: [(Class, u64); 4] = [
     (Class::Raw, 10),
 ];
 
-const CALL_SHARES: [(Call, u64); 18] = [
+const CALL_SHARES: [(Call, u64); 20] = [
     (Call::Build, 12),
-    (Call::RegionValue, 4),
-    (Call::Contains, 8),
+    (Call::RegionValue, 2),
+    (Call::SeamedValue, 4),
+    (Call::SeamCount, 3),
+    (Call::Contains, 7),
     (Call::ArcFirst, 5),
     (Call::ArcAll, 5),
     (Call::IsIntersectingArc, 2),
@@ -84,15 +87,16 @@ const CALL_SHARES: [(Call, u64); 18] = [
     (Call::ReadFile, 8),
     (Call::DoorContains, 7),
     (Call::DoorHold, 7),
-    (Call::Root, 6),
+    (Call::Root, 5),
     (Call::ZoneNew, 4),
-    (Call::ZoneRest, 6),
-    (Call::BoundingCone, 5),
+    (Call::ZoneRest, 4),
+    (Call::BoundingCone, 4),
 ];
 
 /// Asked before there is a zone or a region, as are the edits.
-const FIRST_CALLS: [Call; 11] = [
+const FIRST_CALLS: [Call; 12] = [
     Call::Region,
+    Call::SeamCount,
     Call::Contains,
     Call::ArcFirst,
     Call::ArcAll,
@@ -108,8 +112,9 @@ const FIRST_CALLS: [Call; 11] = [
 /// Of a hundred builds, files read and region values after how many the region is asked for.
 const REGION_SHARE: u64 = 50;
 
-/// The same of the region's file.
+/// The same of the region's file, and of its seam count.
 const WRITE_SHARE: u64 = 12;
+const SEAM_SHARE: u64 = 25;
 
 /// Of a hundred builds after how many a list of edits begins.
 const LIST_AFTER_BUILD: u64 = 12;
@@ -127,9 +132,10 @@ const LIST_AFTER_VALUE: u64 = 27;
 const QUESTION_SHARE: u64 = 40;
 
 /// A file that is read puts its region in the place of the one edited so far.
-const QUESTION_SHARES: [(Call, u64); 11] = [
-    (Call::Region, 27),
-    (Call::Contains, 27),
+const QUESTION_SHARES: [(Call, u64); 12] = [
+    (Call::Region, 22),
+    (Call::SeamCount, 12),
+    (Call::Contains, 20),
     (Call::ArcFirst, 5),
     (Call::ArcAll, 6),
     (Call::IsIntersectingArc, 3),
@@ -144,15 +150,17 @@ const QUESTION_SHARES: [(Call, u64); 11] = [
 // A run of lists of edits has its own shares.
 
 /// Of a hundred lists how many start from what.
-const START_SHARES: [(Call, u64); 3] = [
-    (Call::Build, 70),
-    (Call::RegionValue, 15),
+const START_SHARES: [(Call, u64); 4] = [
+    (Call::Build, 67),
+    (Call::RegionValue, 3),
+    (Call::SeamedValue, 15),
     (Call::ReadFile, 15),
 ];
 
 /// Of a hundred edits after how many each of these is asked.
-const AFTER_EDIT: [(Call, u64); 3] = [
+const AFTER_EDIT: [(Call, u64); 4] = [
     (Call::Region, 25),
+    (Call::SeamCount, 25),
     (Call::Contains, 25),
     (Call::WriteFile, 3),
 ];
@@ -561,12 +569,13 @@ impl Run {
                 Call::Build if full => LIST_AFTER_FULL_BUILD,
                 Call::Build => LIST_AFTER_BUILD,
                 Call::ReadFile => LIST_AFTER_READ,
-                Call::RegionValue => LIST_AFTER_VALUE,
+                Call::RegionValue | Call::SeamedValue => LIST_AFTER_VALUE,
                 _ => continue,
             };
             let draw = &mut self.draw;
             due.extend(draw.percent(REGION_SHARE).then_some(Call::Region));
             due.extend(draw.percent(WRITE_SHARE).then_some(Call::WriteFile));
+            due.extend(draw.percent(SEAM_SHARE).then_some(Call::SeamCount));
             if list.left == 0 && draw.percent(begins) {
                 list = List::mixed(draw);
             }
@@ -654,7 +663,7 @@ impl Run {
                 write_word(out, index)?;
                 region.remove(index);
             }
-            Call::Turn | Call::Region => {}
+            Call::Turn | Call::Region | Call::SeamCount => {}
             Call::Rule => {
                 let (rule, control) = edits::rule(draw, class, region);
                 write_word(out, rule)?;
@@ -699,10 +708,13 @@ impl Run {
                 write_word(out, count)?;
                 write_all(out, &points(draw, class, count))?;
             }
-            Call::RegionValue => {
+            Call::RegionValue | Call::SeamedValue => {
                 let value = region_value(draw);
                 write_word(out, value.count)?;
                 write_word(out, value.flag)?;
+                if call == Call::SeamedValue {
+                    write_word(out, value.seam_count)?;
+                }
                 write_all(out, &value.corners)?;
                 write_all(out, &value.normals)?;
                 *region = value.kept();

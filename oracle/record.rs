@@ -5,6 +5,8 @@
 //! afresh. A value handed in may have normals that no build gives, so it is edited as it stands,
 //! and only the edges that an edit brings in are worked out.
 
+use std::f64::consts::PI;
+
 use stream::{status, CONTROL_POINT_IN, MOST_POINTS};
 use upstream::sph_geom::coo3d::{cross_product, Coo3D, Vec3, Vect3};
 use upstream::sph_geom::{ContainsSouthPoleComputer, ContainsSouthPoleMethod, Polygon};
@@ -14,6 +16,8 @@ use crate::{point, Answer, Refusal};
 /// A region of 1 to 64 corners.
 pub struct Region {
     pub polygon: Polygon,
+    /// How many edges cross the seam, which upstream does not keep. A value is handed in with any.
+    pub seam_count: u64,
     origin: Origin,
 }
 
@@ -26,14 +30,16 @@ enum Origin {
 impl Region {
     pub fn made(polygon: Polygon) -> Self {
         Region {
+            seam_count: seam_count(&polygon),
             polygon,
             origin: Origin::Made,
         }
     }
 
-    pub fn handed_in(polygon: Polygon) -> Self {
+    pub fn handed_in(polygon: Polygon, seam_count: u64) -> Self {
         Region {
             polygon,
+            seam_count,
             origin: Origin::HandedIn,
         }
     }
@@ -48,6 +54,7 @@ impl Region {
         let (mut corners, normals) = self.lists();
         corners[at] = corner;
         self.leave(corners, normals, &[at, at + 1]);
+        self.seam_count = seam_count(&self.polygon);
         Ok(())
     }
 
@@ -62,6 +69,7 @@ impl Region {
         normals.insert(at, normal(&corner, &corner));
         corners.insert(at, corner);
         self.leave(corners, normals, &[at, at + 1]);
+        self.seam_count = seam_count(&self.polygon);
         Ok(())
     }
 
@@ -74,6 +82,7 @@ impl Region {
         corners.remove(at);
         normals.remove(at);
         self.leave(corners, normals, &[at]);
+        self.seam_count = seam_count(&self.polygon);
         Ok(())
     }
 
@@ -142,6 +151,16 @@ pub fn afresh(corners: Vec<Coo3D>, flag: bool) -> Polygon {
         ContainsSouthPoleMethod::DoNotContainsSouthPole
     };
     Polygon::new_custom_vec3(corners.into(), &method)
+}
+
+/// How many edges have an absolute longitude step above PI.
+fn seam_count(polygon: &Polygon) -> u64 {
+    let ends = &polygon.vertices;
+    let starts = ends.iter().cycle().skip(ends.len() - 1);
+    let steps = starts
+        .zip(ends)
+        .map(|(start, end)| (end.lon - start.lon).abs());
+    steps.filter(|&step| step > PI).count() as u64
 }
 
 /// An index below this count.

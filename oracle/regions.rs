@@ -7,7 +7,7 @@ use stream::{
     VECTOR_WORDS,
 };
 
-use crate::draw::{Class, Draw, LARGEST_SUBNORMAL, SMALLEST, SPECIAL};
+use crate::draw::{stepped, Class, Draw, LARGEST_SUBNORMAL, SMALLEST, SPECIAL};
 use crate::edges::{cross, vector, Kept, Point, Vector};
 use crate::points::{
     around, borderline_points, damage, good_points, opposite, point_at, point_count, point_of,
@@ -398,7 +398,7 @@ pub fn bent(draw: &mut Draw, mut corner: Point, before: Point, other: Point) -> 
         before[3] - PI,
         other[3],
     ];
-    match draw.below(13) {
+    match draw.below(14) {
         0 => corner = before,
         1 => corner = other,
         2 | 3 => corner[3] = draw.near_one_of(&lons),
@@ -426,6 +426,7 @@ pub fn bent(draw: &mut Draw, mut corner: Point, before: Point, other: Point) -> 
             let factor = draw.pick(&[0.5, 2.0, 1e-3, 1e-80, 1e-160]);
             corner = with_vector(&corner, &vector(&corner).map(|c| c * factor));
         }
+        12 => corner[3] = half_turn(draw, before[3]),
         _ => {
             let field = draw.index(POINT_WORDS);
             let (least, greatest) = POINT_BOUNDS[field];
@@ -435,11 +436,22 @@ pub fn bent(draw: &mut Draw, mut corner: Point, before: Point, other: Point) -> 
     corner
 }
 
+/// A longitude whose step from this one, rounded, is PI or next to it, where there is one.
+fn half_turn(draw: &mut Draw, from: f64) -> f64 {
+    let size = draw.pick(&[stepped(PI, -1), PI, stepped(PI, 1)]);
+    let about = if from < PI { from + size } else { from - size };
+    (-4..=4)
+        .map(|steps| stepped(about, steps))
+        .find(|lon| (lon - from).abs() == size)
+        .unwrap_or(about)
+}
+
 // Region values
 
 pub struct Value {
     pub count: u64,
     pub flag: u64,
+    pub seam_count: u64,
     pub corners: Vec<Point>,
     pub normals: Vec<Vector>,
 }
@@ -489,14 +501,32 @@ pub fn region_value(draw: &mut Draw) -> Value {
             }
         }
     }
+    let seam_count = handed_seam_count(draw, &corners);
     // What stands past the count is free.
     corners.resize_with(MOST_POINTS as usize, || draw.raws());
     normals.resize_with(MOST_POINTS as usize, || draw.raws());
     Value {
         count,
         flag: draw.pick(&FLAGS),
+        seam_count,
         corners,
         normals,
+    }
+}
+
+/// What a value's seam count is handed in as: the edges' own, next to it, or any number.
+fn handed_seam_count(draw: &mut Draw, corners: &[Point]) -> u64 {
+    let starts = corners.last().into_iter().chain(corners);
+    let crosses = |(start, end): &(&Point, &Point)| (end[3] - start[3]).abs() > PI;
+    let count = starts.zip(corners).filter(crosses).count() as u64;
+    match draw.below(8) {
+        0 | 1 => count,
+        2 => count + 1,
+        3 => count.wrapping_sub(1),
+        4 => draw.below(MOST_POINTS + 2),
+        // Cut down to 8 or to 32 bits some are the edges' own.
+        5 => draw.pick(&[256 + count, (1 << 32) + count, 1 << 63, u64::MAX]),
+        _ => draw.word(),
     }
 }
 

@@ -140,6 +140,8 @@ pub enum Call {
     ZoneRest = 24,
     BoundingCone = 25,
     RegionValue = 26,
+    SeamCount = 27,
+    SeamedValue = 28,
 }
 
 /// The calls that change the region kept; a refused one leaves it.
@@ -164,6 +166,8 @@ pub enum Part {
     Rule(&'static str),
     /// Any number: a corner's place, a length.
     Number(&'static str),
+    /// How many there are of something.
+    Tally(&'static str),
     /// What a C door returned.
     Returned(&'static str),
     /// How many entries the lists after it have.
@@ -478,6 +482,26 @@ pub const KINDS: &[Kind] = &[
         outcome: Outcome::Status,
         answer: &[],
     },
+    Kind {
+        call: Call::SeamCount,
+        name: "the seam count",
+        request: &[],
+        outcome: Outcome::Status,
+        answer: &[Part::Tally("seam count")],
+    },
+    Kind {
+        call: Call::SeamedValue,
+        name: "the same, with its seam count",
+        request: &[
+            Part::InUse("count"),
+            Part::Flag("flag"),
+            Part::Number("seam count"),
+            Part::Points("corner", Entries::Most),
+            Part::Vectors("normal", Entries::Most),
+        ],
+        outcome: Outcome::Status,
+        answer: &[],
+    },
 ];
 
 /// The row of `KINDS` with this number.
@@ -772,6 +796,7 @@ fn describe(parts: &[Part], mut lent: usize, words: &[u64]) -> Vec<String> {
             | Part::Flag(name)
             | Part::Rule(name)
             | Part::Number(name)
+            | Part::Tally(name)
             | Part::Returned(name)
             | Part::Count(name)
             | Part::Found(name)

@@ -9,6 +9,7 @@ use refusal::Cause;
 use refusal::Decision;
 use refusal::Outcome;
 use region::Built;
+use region::CountAnswer;
 use region::Region;
 use stream::Buffer;
 use stream::Stream;
@@ -45,6 +46,13 @@ pub fn put_decision(s: Stream, out: &mut Buffer, d: Decision) -> Stream {
         Decision::Yes => put_answered(s, out, 1),
         Decision::No => put_answered(s, out, 0),
         Decision::Refused(cause) => put_refusal(s, out, cause),
+    }
+}
+
+pub fn put_count(s: Stream, out: &mut Buffer, n: CountAnswer) -> Stream {
+    match n {
+        CountAnswer::Count(count) => put_answered(s, out, count as u64),
+        CountAnswer::Refused(cause) => put_refusal(s, out, cause),
     }
 }
 

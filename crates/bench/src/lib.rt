@@ -41,6 +41,14 @@ fn mix_outcome(sum: u64, outcome: Outcome) -> u64 {
     }
 }
 
+// Of a region that was made: its flag, and how many edges cross the seam.
+fn mix_made(sum: u64, outcome: Outcome, flag: bool, seam_count: usize) -> u64 {
+    mix(
+        mix(mix_outcome(sum, outcome), flag as u64),
+        seam_count as u64,
+    )
+}
+
 fn mix_decision(sum: u64, d: Decision) -> u64 {
     match d {
         Decision::Yes => mix(sum, 1),
@@ -338,7 +346,7 @@ pub extern "C" fn bench_build(corners: &[f64], points: &[f64]) -> u64 {
         let region = built.region;
         let v = region.cross_products[0];
         sum = mix_vector(
-            mix(mix_outcome(sum, outcome), region.contains_south_pole as u64),
+            mix_made(sum, outcome, region.contains_south_pole, region.seam_count),
             v,
         );
         k = next(k, count);
@@ -391,7 +399,7 @@ pub extern "C" fn bench_put(corners: &[f64], normals: &[f64], flag: u64, points:
         let edited = answer.region;
         let v = edited.cross_products[0];
         sum = mix_vector(
-            mix(mix_outcome(sum, outcome), edited.contains_south_pole as u64),
+            mix_made(sum, outcome, edited.contains_south_pole, edited.seam_count),
             v,
         );
         k = next(k, edited.count);
@@ -415,7 +423,7 @@ pub extern "C" fn bench_insert(corners: &[f64], normals: &[f64], flag: u64, poin
         let edited = answer.region;
         let v = edited.cross_products[0];
         sum = mix_vector(
-            mix(mix_outcome(sum, outcome), edited.contains_south_pole as u64),
+            mix_made(sum, outcome, edited.contains_south_pole, edited.seam_count),
             v,
         );
         k = next(k, edited.count);
@@ -436,7 +444,7 @@ pub extern "C" fn bench_remove(corners: &[f64], normals: &[f64], flag: u64, n: u
         let edited = answer.region;
         let v = edited.cross_products[0];
         sum = mix_vector(
-            mix(mix_outcome(sum, outcome), edited.contains_south_pole as u64),
+            mix_made(sum, outcome, edited.contains_south_pole, edited.seam_count),
             v,
         );
         k = next(k, edited.count);
@@ -571,7 +579,7 @@ pub extern "C" fn bench_read(files: &[u8], len: usize, n: usize) -> u64 {
         let region = built.region;
         let v = region.cross_products[0];
         sum = mix_vector(
-            mix(mix_outcome(sum, outcome), region.contains_south_pole as u64),
+            mix_made(sum, outcome, region.contains_south_pole, region.seam_count),
             v,
         );
     }

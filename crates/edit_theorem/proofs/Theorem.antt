@@ -14,7 +14,7 @@ use Rattle.refusal.specs.declared.Outcome.the-variants.{Done, Refused}
 use Rattle.refusal.proofs.Answers.{never}
 use Rattle.region.specs.declared.Region.{Region}
 use Rattle.region.specs.View.{View, viewOf, exactlyOne, contained}
-use Rattle.region.specs.Region.{buildOf, containsOf}
+use Rattle.region.specs.Region.{buildOf, containsOf, seamCountOf}
 use Rattle.region.proofs.Building.{built-view}
 use Rattle.edits.specs.declared.EditAnswer.{EditAnswer}
 use Rattle.edits.specs.Edits.{Edit, Edited, changed, editOf}
@@ -32,6 +32,7 @@ agrees s r g v =
       built = fresh-good s g;
       view = v;
       contains = λ p d h. h ∙ ap (λ (w : View). containsOf w p) v;
+      seamCount = λ n h. h ∙ ap seamCountOf v;
       arcFirst = λ a b f h. h ∙ ap (λ (w : View). arcFirstOf w a b) v;
       arcAll = λ a b l h. subst (λ (w : View). Lists l (arcAllOf w a b)) v h;
       arcIs = λ a b d h. h ∙ ap (λ (w : View). isIntersectingArc w a b) v;

@@ -17,10 +17,11 @@ use Rattle.refusal.specs.declared.Decision.{Decision}
 use Rattle.refusal.specs.declared.Outcome.the-variants.{Done}
 use Rattle.region.specs.declared.Region.{Region}
 use Rattle.region.specs.declared.Built.{Built}
+use Rattle.region.specs.declared.CountAnswer.{CountAnswer}
 use Rattle.region.specs.declared.ContainsSouthPoleMethod.{ContainsSouthPoleMethod}
 use Rattle.region.specs.Edges.{isCounted}
 use Rattle.region.specs.View.{View, viewOf, made, exactlyOne, oddMany, contained}
-use Rattle.region.specs.Region.{flagOf, buildOf, containsOf, Builds}
+use Rattle.region.specs.Region.{flagOf, buildOf, containsOf, seamCountOf, countAnswer, Builds}
 use Rattle.edits.specs.declared.EditAnswer.{EditAnswer}
 use Rattle.edits.specs.Edits.{Edit, Edited}
 use Rattle.edit_theorem.specs.Record.{Plain, checkedBy, after, movesCorner, takenOut, broughtIn, afresh}
@@ -33,13 +34,14 @@ pub data Run : Region → List Edit → Region → Type 0 where
 
 -- ---- what holds of a region and the record beside it
 
--- count, corners, flag and every stored normal are those of the region built afresh; and every answer of a query that meets the call's contract on
--- the region as it stands is, for every argument and refusals included, the one that the definition gives for that fresh region
+-- count, corners, flag, every stored normal and the stored seam count are those of the region built afresh; and every answer of a query that meets the
+-- call's contract on the region as it stands is, for every argument and refusals included, the one that the definition gives for that fresh region
 pub record Agrees (s : Plain) (r : Region) : Type 0 where
   pub fresh : View
   pub built : afresh s ≡ answered fresh
   pub view : viewOf r ≡ fresh
   pub contains : (p : Coo3D) (d : Decision) → decisionAnswer d ≡ containsOf (viewOf r) p → decisionAnswer d ≡ containsOf fresh p
+  pub seamCount : (n : CountAnswer) → countAnswer n ≡ seamCountOf (viewOf r) → countAnswer n ≡ seamCountOf fresh
   pub arcFirst : (a b : Coo3D) (f : FirstAnswer) → firstAnswer f ≡ arcFirstOf (viewOf r) a b → firstAnswer f ≡ arcFirstOf fresh a b
   pub arcAll : (a b : Coo3D) (l : AllAnswer) → Lists l (arcAllOf (viewOf r) a b) → Lists l (arcAllOf fresh a b)
   pub arcIs : (a b : Coo3D) (d : Decision) → decisionAnswer d ≡ isIntersectingArc (viewOf r) a b → decisionAnswer d ≡ isIntersectingArc fresh a b

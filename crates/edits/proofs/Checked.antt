@@ -215,5 +215,5 @@ view-flagged v d in-it out-of-it o flag e = beside o ∙ ap (λ (x : Answer Bool
     beside Done = refl
     beside (Refused cause) = refl
 
-pub flag-back : (r : Region) (flag : Bool) → flag ≡ r .«contains_south_pole» → record { vertices = r .vertices; «cross_products» = r .«cross_products»; count = r .count; «contains_south_pole» = flag } ≡ r
+pub flag-back : (r : Region) (flag : Bool) → flag ≡ r .«contains_south_pole» → record { vertices = r .vertices; «cross_products» = r .«cross_products»; count = r .count; «contains_south_pole» = flag; «seam_count» = r .«seam_count» } ≡ r
 flag-back r flag e = rw e

@@ -1,3 +1,4 @@
 pub mod Checked
 pub mod Moved
 pub mod PutAt
+pub mod Seams

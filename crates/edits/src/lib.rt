@@ -1,5 +1,5 @@
-// Edits of a region. A corner changed costs the normals it touches, and the region is still the one that a fresh build would give: the theorem in
-// specs/Theorem.antt. Upstream has `must_contain` alone.
+// Edits of a region. A corner changed costs the normals it touches and one pass over the corners, in which those edges are counted that cross the
+// seam, and the region is still the one that a fresh build would give: the theorem in edit_theorem. Upstream has `must_contain` alone.
 ghost use mathlib.Core.Path.{_≡_};
 ghost use mathlib.Core.Bool.{cond, not};
 ghost use mathlib.Core.List.{[]};
@@ -79,8 +79,15 @@ fn corner_for(count: usize, most: usize, there: bool, corner: Coo3D) -> PointChe
     PointCheck::Point(p)
 }
 
-// The two normals that touch the corner are worked out, at count 1 the one edge's. Both answers are made of one
-// copy, so that there is no other.
+// One of two corners.
+fn either(first: bool, a: Coo3D, b: Coo3D) -> Coo3D
+    ensures { λ c. ⌜ c ≡ cond first a b ⌝ }
+{
+    if first { a } else { b }
+}
+
+// The two normals that touch the corner are worked out, at count 1 the one edge's; the seam count is taken anew, since a value may be handed in
+// with any. Both answers are made of one copy, so that there is no other.
 pub fn put(r: Region, i: usize, corner: Coo3D) -> EditAnswer
     ensures { λ a. ⌜ Edited (edit.put i corner) r a ⌝ }
 {
@@ -97,6 +104,18 @@ pub fn put(r: Region, i: usize, corner: Coo3D) -> EditAnswer
             let h = index_before(count, i);
             let from = region.vertices[h];
             region.vertices[i] = p;
+            let last = count - 1;
+            let mut start = region.vertices[last];
+            let mut seam_count: usize = 0;
+            let mut k: usize = 0;
+            while k < count {
+                let end = region.vertices[k];
+                let crosses = region::crosses_seam(start, end);
+                seam_count += crosses as usize;
+                start = end;
+                k += 1;
+            }
+            region.seam_count = seam_count;
             if count == 1 {
                 let only = region::edge_normal(p, p);
                 region.cross_products[i] = only;
@@ -116,7 +135,8 @@ pub fn put(r: Region, i: usize, corner: Coo3D) -> EditAnswer
 }
 
 // Before corner i; i equal to the count appends. The new corner's two normals are worked out, the others move with their corners, each array in a
-// loop of its own: one loop over both was slower. The answer is made as put's is.
+// loop of its own: one loop over both was slower. The corners are passed in order, the first i as they are, and their edges counted as in put.
+// The answer is made as put's is.
 pub fn insert(r: Region, i: usize, corner: Coo3D) -> EditAnswer
     ensures { λ a. ⌜ Edited (edit.insert i corner) r a ⌝ }
 {
@@ -132,13 +152,31 @@ pub fn insert(r: Region, i: usize, corner: Coo3D) -> EditAnswer
             let h = index_before(count, i);
             let j = next_index(count + 1, i);
             let from = region.vertices[h];
-            let mut k = count;
-            while k > i {
-                let l = k - 1;
-                let v = region.vertices[l];
-                region.vertices[k] = v;
-                k = l;
+            let last = count - 1;
+            let old_last = region.vertices[last];
+            let mut start = either(i == count, p, old_last);
+            let mut seam_count: usize = 0;
+            let mut k: usize = 0;
+            while k < i {
+                let end = region.vertices[k];
+                let crosses = region::crosses_seam(start, end);
+                seam_count += crosses as usize;
+                start = end;
+                k += 1;
             }
+            let mut carried = p;
+            while k < count {
+                let v = region.vertices[k];
+                region.vertices[k] = carried;
+                let crosses = region::crosses_seam(start, carried);
+                seam_count += crosses as usize;
+                start = carried;
+                carried = v;
+                k += 1;
+            }
+            region.vertices[count] = carried;
+            let crosses = region::crosses_seam(start, carried);
+            seam_count += crosses as usize;
             let mut m = count;
             while m > i {
                 let l = m - 1;
@@ -146,13 +184,13 @@ pub fn insert(r: Region, i: usize, corner: Coo3D) -> EditAnswer
                 region.cross_products[m] = n;
                 m = l;
             }
-            region.vertices[i] = p;
             let to = region.vertices[j];
             let before = region::edge_normal(from, p);
             let after = region::edge_normal(p, to);
             region.cross_products[i] = before;
             region.cross_products[j] = after;
             region.count = count + 1;
+            region.seam_count = seam_count;
             EditAnswer {
                 region,
                 outcome: Outcome::Done,
@@ -177,7 +215,8 @@ fn removable(count: usize, i: usize) -> Outcome
     Outcome::Done
 }
 
-// The normal of the edge that closes the gap is worked out, the others move with their corners. Loops and answer are as insert's.
+// The normal of the edge that closes the gap is worked out, the others move with their corners, and the seam count is taken anew. Loops and answer
+// are as insert's.
 pub fn remove(r: Region, i: usize) -> EditAnswer
     ensures { λ a. ⌜ Edited (edit.remove i) r a ⌝ }
 {
@@ -194,11 +233,24 @@ pub fn remove(r: Region, i: usize) -> EditAnswer
             let h = index_before(count, i);
             let from = region.vertices[h];
             let last = count - 1;
-            let mut k = i;
+            let old_last = region.vertices[last];
+            let mut start = either(i + 1 == count, from, old_last);
+            let mut seam_count: usize = 0;
+            let mut k: usize = 0;
+            while k < i {
+                let end = region.vertices[k];
+                let crosses = region::crosses_seam(start, end);
+                seam_count += crosses as usize;
+                start = end;
+                k += 1;
+            }
             while k < last {
                 let l = k + 1;
                 let v = region.vertices[l];
                 region.vertices[k] = v;
+                let crosses = region::crosses_seam(start, v);
+                seam_count += crosses as usize;
+                start = v;
                 k = l;
             }
             let mut m = i;
@@ -212,6 +264,7 @@ pub fn remove(r: Region, i: usize) -> EditAnswer
             let closing = region::edge_normal(from, to);
             region.cross_products[j] = closing;
             region.count = last;
+            region.seam_count = seam_count;
             EditAnswer {
                 region,
                 outcome: Outcome::Done,

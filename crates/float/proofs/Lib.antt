@@ -1,4 +1,5 @@
 pub mod Constants
 pub mod Finite
+pub mod Magnitude
 pub mod Nan
 pub mod Products

@@ -5,7 +5,7 @@ use native.Mathlib.Numerals.{add-one}
 use native.Mathlib.Omega.{arith}
 use mathlib.Core.Path.{_≡_, refl, sym, ap, _∙_}
 use mathlib.Core.Logic.{_⊎_, inl, inr, ⊎-elim}
-use mathlib.Core.Bool.{Bool, true, false}
+use mathlib.Core.Bool.{Bool, true, false, cond}
 use mathlib.Core.List.{List, [], _∷_}
 use borrow.Author.Tests.{eqb-true, eqb-false, eq-eqb, ne-eqb}
 use lib.Dec.{eqb}
@@ -77,6 +77,25 @@ module _ {A : Type 0} where
       empty [] h = refl
       empty (y ∷ m) h = absurd (omega arith)
   last-del (x ∷ l) f d (suc i) e = last-del l x d i (omega arith)
+
+  -- the last element once one is inserted, or one of several is taken out
+  pub last-inserted : (l : List A) (d a : A) (i : ℕ) → i ≤ length l → cond (eqb i (length l)) a (lastOf d l) ≡ lastOf d (ins i a l)
+  last-inserted l d a i h =
+      ⊎-elim
+      (λ (e : i ≡ length l). rw (eq-eqb i (length l) e) (sym (ap (λ (k : ℕ). lastOf d (ins k a l)) e ∙ last-ins l d a)))
+      (λ (e : i ≡ length l → ⊥). rw (ne-eqb i (length l) e) (sym (last-ins-kept l d a i (omega arith))))
+      (same-or-not i (length l))
+
+  pub last-deleted : (l : List A) (d : A) (i : ℕ) → i < length l → 1 < length l → cond (eqb (i + 1) (length l)) (beforeOf d l i) (lastOf d l) ≡ lastOf d (del i l)
+  last-deleted l d i h two =
+      ⊎-elim
+      (λ (e : i + 1 ≡ length l). rw (eq-eqb (i + 1) (length l) e) (before i (omega arith) ∙ sym (last-del l d d i (omega arith))))
+      (λ (e : i + 1 ≡ length l → ⊥). rw (ne-eqb (i + 1) (length l) e) (sym (last-del-kept l d i (omega arith))))
+      (same-or-not (i + 1) (length l))
+    where
+      before : (k : ℕ) → 0 < k → beforeOf d l k ≡ getD (d ∷ l) k d
+      before zero p = absurd (not-suc-le-zero p)
+      before (suc k) p = refl
 
 module _ {C N : Type 0} (d : C) (normal : C → C → N) where
   abbrev from : C → List C → List N

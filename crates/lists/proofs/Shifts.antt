@@ -4,9 +4,10 @@ use native.Mathlib.Numerals.{add-one}
 use native.Mathlib.Omega.{arith}
 use mathlib.Core.Path.{_≡_, refl, sym, ap, _∙_}
 use mathlib.Core.List.{List, [], _∷_, _++_, append-assoc, append-nil}
-use lib.ListN.{length, take, drop, getD, set, drop-of-length-le, length-set}
-use lib.Seq.{take-suc, getD-set-same, drop-cons, getD-take, length-take-le, take-suc-set, take-set-lt, take-take, take-set-le, set-split, drop-set-lt, take-at, drop-at}
+use lib.ListN.{length, take, drop, getD, set, drop-of-length-le, length-set, List·getD-append}
+use lib.Seq.{take-suc, getD-set-same, drop-cons, getD-take, length-take-le, take-suc-set, take-set-lt, take-take, take-set-le, set-split, drop-set-lt, take-at, drop-at, getD-at}
 use Rattle.lists.specs.Cyclic.{ins, del}
+use Rattle.lists.proofs.Passing.{next-left, none-left, stored}
 
 module _ {A : Type 0} where
   pub ins-is : (i : ℕ) (a : A) (l : List A) → ins i a l ≡ take i l ++ (a ∷ drop i l)
@@ -70,3 +71,36 @@ module _ {A : Type 0} (d : A) where
       let left : take n (set l i a) ≡ take i l ++ (a ∷ drop (i + 1) (take n l)) =
       rw (take-set-lt n l i a h, set-split (take n l) i a lt, take-take i n l le, add-one i) in
       left ∙ rw (ins-is i a o, ← e, take-at (take i l) (drop (i + 1) (take n l)) i len, drop-at (take i l) (drop (i + 1) (take n l)) i len)
+
+  -- the entries before the hole, and the one that comes into it
+  pub front-at : (l rest : List A) (k i : ℕ) → i < k → k ≤ length l → getD (take k l ++ rest) i d ≡ getD l i d
+  front-at l rest k i h hl =
+      let lt : i < length (take k l) = rw (length-take-le k l hl) h in
+      List·getD-append (take k l) rest d i lt ∙ getD-take k l i d h
+
+  pub next-at : (l : List A) (n k : ℕ) → k + 1 < n → n ≤ length l → getD (halves l n k) k d ≡ getD l (k + 1) d
+  next-at l n k h hl =
+      let len : length (take k l) ≡ k = length-take-le k l (omega arith) in
+      ap (λ (m : List A). getD (take k l ++ m) k d) (next-left l n (k + 1) d hl h) ∙ getD-at (take k l) (getD l (k + 1) d) _ d k len
+
+  -- ---- making room from the front: `a` takes the place of what stands at k, which is carried on
+
+  abbrev pub carrying : List A → ℕ → ℕ → A → List A
+  carrying l n k a = take k l ++ (a ∷ drop k (take n l))
+
+  pub carry-starts : (l : List A) (n i : ℕ) (a : A) → i ≤ n → carrying l n i a ≡ ins i a (take n l)
+  carry-starts l n i a h = rw (ins-is i a (take n l), take-take i n l h)
+
+  pub carry-turn : (l : List A) (n k : ℕ) (a : A) → k < n → n ≤ length l → carrying (set l k a) n (k + 1) (getD l k d) ≡ carrying l n k a
+  carry-turn l n k a h hl =
+      let room : k < length l = omega arith in
+      let s : k < k + 1 = omega arith in
+      rw (take-set-lt n l k a h, drop-set-lt (k + 1) (take n l) k a s, stored l k a (getD l k d ∷ drop (k + 1) (take n l)) room, next-left l n k d hl h)
+
+  pub carry-ends : (l : List A) (n : ℕ) (a : A) → n < length l → take (n + 1) (set l n a) ≡ carrying l n n a
+  carry-ends l n a h =
+      let hl : n ≤ length l = omega arith in
+      sym (append-nil (take (n + 1) (set l n a))) ∙ stored l n a [] h ∙ ap (λ (m : List A). take n l ++ (a ∷ m)) (sym (none-left l n n hl (omega arith)))
+
+  pub carry-here : (l : List A) (n k : ℕ) (a : A) → k ≤ length l → getD (carrying l n k a) k d ≡ a
+  carry-here l n k a h = getD-at (take k l) a (drop k (take n l)) d k (length-take-le k l h)

@@ -89,6 +89,28 @@ fn region_contains() {
     tell::decision(region::contains(s, at(0.0, 0.5, 0.5, 7.0, 0.5)));
 }
 
+fn region_seam_count() {
+    tell::call(b"region::seam_count");
+    let s = square();
+    tell::count(region::seam_count(s));
+    let west_south = at(0.75, -0.25, -0.25, 6.0, -0.25);
+    let east_south = at(0.75, 0.25, -0.25, 0.25, -0.25);
+    let east_north = at(0.75, 0.25, 0.25, 0.25, 0.25);
+    let west_north = at(0.75, -0.25, 0.25, 6.0, 0.25);
+    let mut corners = [west_south; 64];
+    corners[1] = east_south;
+    corners[2] = east_north;
+    corners[3] = west_north;
+    let built = region::build(corners, 4, ContainsSouthPoleMethod::Default);
+    let across = built.region;
+    tell::count(region::seam_count(across));
+    let edited = edits::put(s, 3, at(-0.5, 0.75, 0.0, 2.0, 0.0));
+    let moved = edited.region;
+    tell::count(region::seam_count(moved));
+    let nothing = region::empty();
+    tell::count(region::seam_count(nothing));
+}
+
 fn region_contains_south_pole() {
     tell::call(b"region::contains_south_pole");
     let s = square();
@@ -123,6 +145,16 @@ fn region_is_in_lon_range() {
     tell::yes_no(region::is_in_lon_range(v4, v0, half));
     tell::yes_no(region::is_in_lon_range(v4, v0, v4));
     tell::yes_no(region::is_in_lon_range(v3, v0, v4));
+}
+
+fn region_crosses_seam() {
+    tell::call(b"region::crosses_seam");
+    let v0 = at(1.0, 0.0, 0.0, 0.0, 0.0);
+    let half = at(-1.0, 0.0, 0.0, float::PI, 0.0);
+    let v4 = at(-0.75, -0.75, 0.0, 4.0, 0.0);
+    tell::yes_no(region::crosses_seam(v0, half));
+    tell::yes_no(region::crosses_seam(v0, v4));
+    tell::yes_no(region::crosses_seam(v4, v0));
 }
 
 fn region_is_counted() {
@@ -792,10 +824,12 @@ fn main() {
     region_empty();
     region_refused();
     region_contains();
+    region_seam_count();
     region_contains_south_pole();
     region_check_rule();
     region_edge_normal();
     region_is_in_lon_range();
+    region_crosses_seam();
     region_is_counted();
     edits_put();
     edits_insert();

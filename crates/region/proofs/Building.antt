@@ -2,6 +2,7 @@
 use Prim.Native.Nat.{ℕ, _+_, _-_, _≤_, _<_}
 use native.Mathlib.Omega.{arith}
 use native.Mathlib.Nat.{le-refl}
+use mir.Val.{boolByte}
 use mathlib.Core.Path.{_≡_, refl, sym, ap, subst, _∙_}
 use mathlib.Core.Bool.{Bool, false}
 use mathlib.Core.List.{List, [], _∷_, _++_}
@@ -22,11 +23,12 @@ use Rattle.refusal.proofs.Answers.{never}
 use Rattle.region.specs.declared.Built.{Built}
 use Rattle.region.specs.declared.Region.{Region}
 use Rattle.region.specs.declared.ContainsSouthPoleMethod.{ContainsSouthPoleMethod}
-use Rattle.region.specs.Edges.{normalOf}
+use Rattle.region.specs.Edges.{normalOf, crossesSeam}
 use Rattle.region.specs.Poles.{ruleFlag, fixedRule}
-use Rattle.region.specs.View.{View, viewOf, withFlag, normalsOf, made, nowhere}
+use Rattle.region.specs.View.{View, viewOf, withFlag, seamsOf, normalsOf, made, nowhere}
 use Rattle.region.specs.Region.{ruleAt, flagOf, buildOf, regionBy, Builds}
 use Rattle.region.proofs.Corners.{normals-start, normals-turn, normals-done}
+use Rattle.region.proofs.Seam.{Counting, counting-ends, seams-start, seams-turn}
 use Rattle.region.proofs.Rules.{no-zero, some}
 use Rattle.region.proofs.Flags.{flag-fixed, flag-checked, flag-refused, flag-only}
 use Rattle.region.proofs.Builds.{BuiltOf, build-answered, built-good, built-fixed}
@@ -54,7 +56,7 @@ checking-starts points count flag r v e n k f =
 
 module _ {points : List Coo3D} {count i : ℕ} {flag : Bool} {r : Region} (inv : Checking points count flag r i) (full : length points ≡ 64) where
   pub checking-good : count ≤ 64 → i < count → (q : Coo3D) → pointAt i (getD (r .vertices) i nowhere) ≡ answered q
-      → Checking points count flag (record { vertices = set (r .vertices) i q; «cross_products» = r .«cross_products»; count = r .count; «contains_south_pole» = r .«contains_south_pole» }) (i + 1)
+      → Checking points count flag (record { vertices = set (r .vertices) i q; «cross_products» = r .«cross_products»; count = r .count; «contains_south_pole» = r .«contains_south_pole»; «seam_count» = r .«seam_count» }) (i + 1)
   checking-good few below q e =
       let long : count ≤ length points = omega (arith, few, full) in
       let corners = inv .corners in
@@ -109,7 +111,7 @@ working-starts {points} {count} {i} {flag} {r} inv some few =
 
 pub working-turn : {corners : List Coo3D} {count k : ℕ} {flag : Bool} {r : Region} {from : Coo3D} → Working corners count flag r from k → length corners ≡ 64 → count ≤ 64 → k < count
     → (n : Vect3) → n ≡ normalOf from (getD (r .vertices) k nowhere)
-    → Working corners count flag (record { vertices = r .vertices; «cross_products» = set (r .«cross_products») k n; count = r .count; «contains_south_pole» = r .«contains_south_pole» })
+    → Working corners count flag (record { vertices = r .vertices; «cross_products» = set (r .«cross_products») k n; count = r .count; «contains_south_pole» = r .«contains_south_pole»; «seam_count» = r .«seam_count» })
     (getD (r .vertices) k nowhere) (k + 1)
 working-turn {corners} {count} {k} {flag} {r} {from} inv full few below n e =
     let long : count ≤ length corners = omega (arith, few, full) in
@@ -124,6 +126,23 @@ working-turn {corners} {count} {k} {flag} {r} {from} inv full few below n e =
       flagged = inv .flagged;
       so-far = rw (e, at) (sym (normals-turn corners count from (r .«cross_products») k nowhere long below room) ∙ inv .so-far);
     }
+
+-- ---- and with them the edges that cross the seam
+
+pub seams-first : {points : List Coo3D} {count i : ℕ} {flag : Bool} {r : Region} → Checking points count flag r i → (count ≡ 0 → ⊥) → count ≤ 64
+    → Counting (take count (r .vertices)) 0 (getD (r .vertices) (count - 1) nowhere) 0
+seams-first {count = count} {r = r} inv some few =
+    let corners = inv .corners in
+    let long : count ≤ length (r .vertices) = omega (arith, few, corners) in
+    seams-start (r .vertices) count long (no-zero some)
+
+pub seams-next : {corners : List Coo3D} {count k n : ℕ} {flag : Bool} {r : Region} {from : Coo3D} → Working corners count flag r from k → Counting (take count corners) n from k
+    → length corners ≡ 64 → count ≤ 64 → k < count → (b : Bool) → b ≡ crossesSeam (from .lon) (getD (r .vertices) k nowhere .lon)
+    → Counting (take count corners) (n + boolByte b) (getD (r .vertices) k nowhere) (k + 1)
+seams-next {corners} {count} {k} {n} {flag} {r} {from} inv seams full few below b e =
+    let long : count ≤ length corners = omega (arith, few, full) in
+    let at : getD (r .vertices) k nowhere ≡ getD corners k nowhere = ap (λ (l : List Coo3D). getD l k nowhere) (inv .same) in
+    rw at (seams-turn corners count long seams below b (e ∙ ap (λ (c : Coo3D). crossesSeam (from .lon) (c .lon)) at))
 
 -- ---- the answers
 
@@ -147,24 +166,30 @@ fixed-is : (l : List Coo3D) (n : ℕ) (flag : Bool) (cs : List Coo3D) → answer
 unfolding buildOf
 fixed-is l n flag cs e some few = rw (sym e, flag-fixed (made cs false) flag some few)
 
-module _ {points : List Coo3D} {count i k : ℕ} {flag : Bool} {r₀ r : Region} {from : Coo3D} (first : Checking points count flag r₀ i) (second : Working (r₀ .vertices) count flag r from k)
-    (full : length points ≡ 64) (some : count ≡ 0 → ⊥) (few : count ≤ 64) (passed : count ≤ i) (passed′ : count ≤ k) where
+-- a region with its seam count
+abbrev pub seamed : Region → ℕ → Region
+seamed r n = record { vertices = r .vertices; «cross_products» = r .«cross_products»; count = r .count; «contains_south_pole» = r .«contains_south_pole»; «seam_count» = n }
+
+module _ {points : List Coo3D} {count i k n : ℕ} {flag : Bool} {r₀ r : Region} {from : Coo3D} (first : Checking points count flag r₀ i) (second : Working (r₀ .vertices) count flag r from k)
+    (seams : Counting (take count (r₀ .vertices)) n from k) (full : length points ≡ 64) (some : count ≡ 0 → ⊥) (few : count ≤ 64) (passed : count ≤ i) (passed′ : count ≤ k) where
   long : count ≤ length (r₀ .vertices)
   long = let e = first .corners in omega (arith, few, e)
 
-  as-made : viewOf r ≡ made (take count (r₀ .vertices)) flag
+  as-made : viewOf (seamed r n) ≡ made (take count (r₀ .vertices)) flag
   as-made =
       let below = second .below in
       let at : k ≡ count = omega (arith, passed′, below) in
       let normals : take count (r .«cross_products») ≡ normalsOf (take count (r₀ .vertices)) = sym (normals-done (r₀ .vertices) count from (r .«cross_products») k long at) ∙ second .so-far in
-      rw (second .counted, second .same, second .flagged, normals, length-take-le count (r₀ .vertices) long)
+      let len : length (take count (r₀ .vertices)) ≡ count = length-take-le count (r₀ .vertices) long in
+      let crossings : n ≡ seamsOf (take count (r₀ .vertices)) = counting-ends seams (rw len passed′) in
+      rw (second .counted, second .same, second .flagged, normals, crossings, len)
 
-  pub ends : Builds (record { region = r; outcome = Done }) (buildOf points count (fixedRule flag))
+  pub ends : Builds (record { region = seamed r n; outcome = Done }) (buildOf points count (fixedRule flag))
   ends =
       let cs = take count (r₀ .vertices) in
       let len : length cs ≡ count = length-take-le count (r₀ .vertices) long in
       let built = fixed-is points count flag cs (checked first full some few passed) (λ (z : length cs ≡ 0). some (sym len ∙ z)) (rw len few) in
-      subst (Builds (record { region = r; outcome = Done })) built (record { outcome = refl; view = as-made })
+      subst (Builds (record { region = seamed r n; outcome = Done })) built (record { outcome = refl; view = as-made })
 
 -- ---- by a rule: what was built by a fixed one, with the flag that the rule sets
 

@@ -2,6 +2,7 @@ pub mod Lengths
 pub mod Edges
 pub mod Held
 pub mod Corners
+pub mod Seam
 pub mod Odd
 pub mod Rules
 pub mod Flags

@@ -4,7 +4,7 @@ use lib.Ieee.{Float, neg, lt, le}
 use Rattle.coo3d.specs.declared.Coo3D.{Coo3D}
 use Rattle.coo3d.specs.declared.Vect3.{Vect3}
 use Rattle.coo3d.specs.Vectors.{vectOfPoint, dotOf, crossOf, oppositeOf}
-use Rattle.float.specs.Doubles.{_⊖_, nought, pi, halfOpen}
+use Rattle.float.specs.Doubles.{_⊖_, nought, pi, absOf, halfOpen}
 
 pub record Edge : Type 0 where
   pub from : Coo3D
@@ -18,6 +18,10 @@ northward v = cond (lt (v .z) nought) (oppositeOf v) v
 -- `cross_product` of start and end, turned north
 unfoldable pub normalOf : Coo3D → Coo3D → Vect3
 normalOf from to = northward (crossOf (vectOfPoint from) (vectOfPoint to))
+
+-- the absolute longitude step, rounded, exceeds PI: one of exactly PI does not cross the seam, nor does a NaN, which only a value handed in has
+unfoldable pub crossesSeam : Float → Float → Bool
+crossesSeam lon1 lon2 = lt pi (absOf (lon2 ⊖ lon1))
 
 -- `is_in_lon_range`: an absolute step up to and including PI does not cross the seam, and equal longitudes are never in range
 abbrev pub inRangeByStep : Float → Float → Float → Float → Bool

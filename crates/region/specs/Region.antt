@@ -9,6 +9,8 @@ use Rattle.refusal.specs.Answer.{Answer, answered, refused, refusedFor, andThen
 use Rattle.region.specs.declared.Built.{Built}
 use Rattle.region.specs.declared.ContainsSouthPoleMethod.{ContainsSouthPoleMethod}
 use Rattle.region.specs.declared.ContainsSouthPoleMethod.the-variants.{Default, DefaultComplement, ContainsSouthPole, DoNotContainsSouthPole, ControlPointIn, ControlPointOut}
+use Rattle.region.specs.declared.CountAnswer.{CountAnswer}
+use Rattle.region.specs.declared.CountAnswer.the-variants as counted
 use Rattle.region.specs.declared.RuleCheck.{RuleCheck}
 use Rattle.region.specs.declared.RuleCheck.the-variants as check
 use Rattle.region.specs.View.{View, viewOf, empty, made, contained}
@@ -17,6 +19,14 @@ use Rattle.region.specs.Poles.{ruleFlag}
 -- every call on a region value tests its count first
 unfoldable pub containsOf : View → Coo3D → Answer Bool
 containsOf v p = withCount (v .count) (andThen (pointAt 0 p) (λ q. answered (contained q v)))
+
+-- the stored number as it is
+unfoldable pub seamCountOf : View → Answer ℕ
+seamCountOf v = withCount (v .count) (answered (v .seamCount))
+
+abbrev pub countAnswer : CountAnswer → Answer ℕ
+countAnswer (counted.Count n) = answered n
+countAnswer (counted.Refused cause) = refusedFor cause
 
 -- ---- the flag, and building
 

@@ -1,6 +1,6 @@
--- What a region is to every call: its count, the corners and normals below it, and the flag.
-use Prim.Native.Nat.{ℕ}
-use mathlib.Core.Bool.{Bool, false, not, Bool·beq}
+-- What a region is to every call: its count, the corners and normals below it, the flag, and how many of its edges cross the seam.
+use Prim.Native.Nat.{ℕ, _+_}
+use mathlib.Core.Bool.{Bool, false, not, Bool·beq, cond}
 use mathlib.Core.List.{List, [], _∷_}
 use lib.Ieee.{nan}
 use lib.ListN.{length, take}
@@ -8,13 +8,31 @@ use Rattle.coo3d.specs.declared.Coo3D.{Coo3D}
 use Rattle.coo3d.specs.declared.Vect3.{Vect3}
 use Rattle.lists.specs.Cyclic.{lastOf, along}
 use Rattle.region.specs.declared.Region.{Region}
-use Rattle.region.specs.Edges.{Edge, normalOf, isCounted}
+use Rattle.region.specs.Edges.{Edge, normalOf, crossesSeam, isCounted}
+
+-- the last corner; `nowhere` is read only where there is none
+abbrev pub nowhere : Coo3D
+nowhere = record { x = nan; y = nan; z = nan; lon = nan; lat = nan }
+
+-- ---- the seam
+
+-- how many of the edges cross the seam, each from the corner before to the next, the first from `from`
+unfoldable pub seamsFrom : Coo3D → List Coo3D → ℕ
+seamsFrom from [] = 0
+seamsFrom from (c ∷ cs) = cond (crossesSeam (from .lon) (c .lon)) 1 0 + seamsFrom c cs
+
+-- edge 0 starts at the last corner
+unfoldable pub seamsOf : List Coo3D → ℕ
+seamsOf cs = seamsFrom (lastOf nowhere cs) cs
+
+-- ---- the view
 
 pub record View : Type 0 where
   pub count : ℕ
   pub corners : List Coo3D
   pub normals : List Vect3
   pub flag : Bool
+  pub seamCount : ℕ
 
 abbrev pub viewOf : Region → View
 viewOf r =
@@ -23,24 +41,21 @@ viewOf r =
       corners = take (r .count) (r .vertices);
       normals = take (r .count) (r .«cross_products»);
       flag = r .«contains_south_pole»;
+      seamCount = r .«seam_count»;
     }
 
 abbrev pub withFlag : View → Bool → View
-withFlag v flag = record { count = v .count; corners = v .corners; normals = v .normals; flag = flag }
+withFlag v flag = record { count = v .count; corners = v .corners; normals = v .normals; flag = flag; seamCount = v .seamCount }
 
--- a view once its corners and normals are these: whatever else a region keeps of its corners joins here
+-- a view once its corners and normals are these: what else a region keeps of its corners is worked out of all of them, whatever it was before
 abbrev pub withCorners : View → List Coo3D → List Vect3 → View
-withCorners v cs ns = record { count = length cs; corners = cs; normals = ns; flag = v .flag }
+withCorners v cs ns = record { count = length cs; corners = cs; normals = ns; flag = v .flag; seamCount = seamsOf cs }
 
 -- no corners, and a flag
 abbrev pub empty : Bool → View
-empty flag = record { count = 0; corners = []; normals = []; flag = flag }
+empty flag = record { count = 0; corners = []; normals = []; flag = flag; seamCount = 0 }
 
 -- ---- edges
-
--- the last corner; `nowhere` is read only where there is none
-abbrev pub nowhere : Coo3D
-nowhere = record { x = nan; y = nan; z = nan; lon = nan; lat = nan }
 
 -- each edge runs from the corner before to the next, the first from `from`
 unfoldable pub edgesFrom : Coo3D → List Coo3D → List Vect3 → List Edge
@@ -75,6 +90,6 @@ contained p v = exactlyOne (v .flag) (oddAt p v)
 unfoldable pub normalsOf : List Coo3D → List Vect3
 normalsOf cs = along normalOf (lastOf nowhere cs) cs
 
--- the corners with their edges' normals, and a flag
+-- the corners with their edges' normals and seam count, and a flag
 abbrev pub made : List Coo3D → Bool → View
 made cs flag = withCorners (empty flag) cs (normalsOf cs)

@@ -5,9 +5,9 @@ ghost use Prim.Native.Nat.{_≤_, _<_};
 ghost use lib.ListN.{take};
 ghost use Rattle.refusal.specs.Answer.{answered, refusedFor, decisionAnswer};
 ghost use Rattle.domain.specs.Checks.{pointAt};
-ghost use Rattle.region.specs.Edges.{Edge, normalOf, inLonRange, isCounted};
+ghost use Rattle.region.specs.Edges.{Edge, normalOf, inLonRange, crossesSeam, isCounted};
 ghost use Rattle.region.specs.View.{viewOf, empty, oddAt};
-ghost use Rattle.region.specs.Region.{containsOf, ruleAt, ruleAnswer, flagOf, buildOf, Builds};
+ghost use Rattle.region.specs.Region.{containsOf, seamCountOf, countAnswer, ruleAt, ruleAnswer, flagOf, buildOf, Builds};
 ghost use Rattle.region.specs.Poles.{stepOf, basicOf, ruleFlag, fixedRule};
 use coo3d::Coo3D;
 use coo3d::Vect3;
@@ -23,6 +23,8 @@ pub struct Region {
     pub cross_products: [Vect3; 64],
     pub count: usize,
     pub contains_south_pole: bool,
+    // How many edges cross the seam.
+    pub seam_count: usize,
 }
 
 // The rule that sets the flag.
@@ -33,6 +35,12 @@ pub enum ContainsSouthPoleMethod {
     DoNotContainsSouthPole,
     ControlPointIn(Coo3D),
     ControlPointOut(Coo3D),
+}
+
+// The answer of a call that counts.
+pub enum CountAnswer {
+    Count(usize),
+    Refused(Cause),
 }
 
 // A rule whose control point was checked.
@@ -64,6 +72,14 @@ pub fn is_in_lon_range(coo: Coo3D, v1: Coo3D, v2: Coo3D) -> bool
     } else {
         (dlon <= float::PI) == float::within_half_open(v1.lon, coo.lon, v2.lon)
     }
+}
+
+// Whether the edge's absolute longitude step exceeds PI. The larger of the step and its opposite is that, but for the sign of a 0.
+pub fn crosses_seam(from: Coo3D, to: Coo3D) -> bool
+    ensures { λ r. ⌜ r ≡ crossesSeam (from .lon) (to .lon) ⌝ }
+{
+    let step = to.lon - from.lon;
+    float::max(step, -step) > float::PI
 }
 
 // Whether the edge is in range at the point, and the point north of its plane.
@@ -152,6 +168,20 @@ pub fn contains(r: Region, coo: Coo3D) -> Decision
     refusal::decide(is_inside)
 }
 
+// The number stored, as it is.
+pub fn seam_count(r: Region) -> CountAnswer
+    ensures { λ n. ⌜ countAnswer n ≡ seamCountOf (viewOf r) ⌝ }
+{
+    let count = r.count;
+    if count == 0 {
+        return CountAnswer::Refused(Cause::NoPoint);
+    }
+    if count > 64 {
+        return CountAnswer::Refused(Cause::TooManyPoints);
+    }
+    CountAnswer::Count(r.seam_count)
+}
+
 // The rule, its control point checked and numbered by the caller. Callers go on with the rule that is handed back.
 pub fn check_rule(method: ContainsSouthPoleMethod, index: usize) -> RuleCheck
     ensures { λ r. ⌜ ruleAnswer r ≡ ruleAt index method ⌝ }
@@ -231,6 +261,7 @@ pub fn empty() -> Region
         cross_products: [Vect3::zero(); 64],
         count: 0,
         contains_south_pole: false,
+        seam_count: 0,
     }
 }
 
@@ -260,6 +291,7 @@ pub fn build_flagged(points: [Coo3D; 64], count: usize, flag: bool) -> Built
         cross_products: [Vect3::zero(); 64],
         count,
         contains_south_pole: flag,
+        seam_count: 0,
     };
     let mut i: usize = 0;
     while i < count {
@@ -272,14 +304,18 @@ pub fn build_flagged(points: [Coo3D; 64], count: usize, flag: bool) -> Built
     }
     let last = count - 1;
     let mut from = region.vertices[last];
+    let mut seam_count: usize = 0;
     let mut k: usize = 0;
     while k < count {
         let to = region.vertices[k];
         let n = edge_normal(from, to);
         region.cross_products[k] = n;
+        let crosses = crosses_seam(from, to);
+        seam_count += crosses as usize;
         from = to;
         k += 1;
     }
+    region.seam_count = seam_count;
     Built {
         region,
         outcome: Outcome::Done,

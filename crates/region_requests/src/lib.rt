@@ -105,11 +105,16 @@ pub fn change_rule(s: Stream, input: &mut Buffer, out: &mut Buffer, r: Region) -
     put_edited(rule.stream, out, r, edits::rule(r, method))
 }
 
-// The region is the one given, unchecked.
-pub fn hand_in(s: Stream, input: &mut Buffer, out: &mut Buffer) -> Kept {
-    let n = stream::get(s, input);
-    let flag = stream::get(n.stream, input);
-    let corners = stream::get_points(flag.stream, input, 64);
+// The region is the one given, unchecked: its corners and normals, and what came before them.
+fn hand_in_lists(
+    s: Stream,
+    input: &mut Buffer,
+    out: &mut Buffer,
+    count: u64,
+    flag: u64,
+    seam_count: u64,
+) -> Kept {
+    let corners = stream::get_points(s, input, 64);
     let normals = stream::get_vectors(corners.stream, input);
     let vertices = corners.values;
     let cross_products = normals.values;
@@ -118,11 +123,29 @@ pub fn hand_in(s: Stream, input: &mut Buffer, out: &mut Buffer) -> Kept {
         region: Region {
             vertices,
             cross_products,
-            count: n.value as usize,
-            contains_south_pole: flag.value != 0,
+            count: count as usize,
+            contains_south_pole: flag != 0,
+            seam_count: seam_count as usize,
         },
         stream,
     }
+}
+
+pub fn hand_in(s: Stream, input: &mut Buffer, out: &mut Buffer) -> Kept {
+    let n = stream::get(s, input);
+    let flag = stream::get(n.stream, input);
+    hand_in_lists(flag.stream, input, out, n.value, flag.value, 0)
+}
+
+pub fn hand_in_seamed(s: Stream, input: &mut Buffer, out: &mut Buffer) -> Kept {
+    let n = stream::get(s, input);
+    let flag = stream::get(n.stream, input);
+    let seams = stream::get(flag.stream, input);
+    hand_in_lists(seams.stream, input, out, n.value, flag.value, seams.value)
+}
+
+pub fn seam_count(s: Stream, out: &mut Buffer, r: Region) -> Stream {
+    answers::put_count(s, out, region::seam_count(r))
 }
 
 pub fn contains(s: Stream, input: &mut Buffer, out: &mut Buffer, r: Region) -> Stream {

@@ -60,6 +60,10 @@ const BOUNDING_CONE: u64 = 25;
 
 const HAND_IN_REGION: u64 = 26;
 
+const SEAM_COUNT: u64 = 27;
+
+const HAND_IN_SEAMED: u64 = 28;
+
 // What is kept from one request to the next.
 struct State {
     region: Region,
@@ -111,6 +115,7 @@ fn ask(
 ) -> Stream {
     match number {
         SHOW_REGION => answers::put_region(s, out, r),
+        SEAM_COUNT => region_requests::seam_count(s, out, r),
         CONTAINS => region_requests::contains(s, input, out, r),
         ARC_FIRST => crossing_requests::arc_first(s, input, out, r),
         ARC_ALL => crossing_requests::arc_all(s, input, out, r),
@@ -149,6 +154,7 @@ fn change(
         HOLD_ON_LENT => region_requests::hold_on_lent(s, input, out, r),
         READ_FILE => file_requests::read(s, input, out, r),
         HAND_IN_REGION => region_requests::hand_in(s, input, out),
+        HAND_IN_SEAMED => region_requests::hand_in_seamed(s, input, out),
         _ => unchanged(r, ask(s, number, input, out, r, z)),
     }
 }

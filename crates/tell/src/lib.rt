@@ -15,6 +15,7 @@ use refusal::Cause;
 use refusal::Decision;
 use refusal::Outcome;
 use region::Built;
+use region::CountAnswer;
 use region::Region;
 use region::RuleCheck;
 use region_file::TrailerAnswer;
@@ -112,6 +113,13 @@ pub fn decision(answer: Decision) {
         Decision::Yes => yes_no(true),
         Decision::No => yes_no(false),
         Decision::Refused(cause) => refused(cause),
+    }
+}
+
+pub fn count(answer: CountAnswer) {
+    match answer {
+        CountAnswer::Count(n) => number(n as u64),
+        CountAnswer::Refused(cause) => refused(cause),
     }
 }
 

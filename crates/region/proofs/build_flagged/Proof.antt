@@ -1,10 +1,12 @@
 -- `region::build_flagged` meets its contract. Assumes nothing.
 use Prim.Native.Nat.{_-_}
+use native.Mathlib.Omega.{arith}
 use mathlib.Core.Path.{_≡_, refl, sym, ap, _∙_}
-use lib.ListN.{length}
+use lib.ListN.{length, take}
 use borrow.Author.Needs.{needs}
 use Rattle.domain.specs.Checks.{pointAnswer}
-use Rattle.region.proofs.Building.{Checking, checking-starts, checking-good, checking-bad, Working, working-starts, working-turn, not-built, no-points, many-points, ends}
+use Rattle.region.proofs.Building.{Checking, checking-starts, checking-good, checking-bad, Working, working-starts, working-turn, seams-first, seams-next, not-built, no-points, many-points, ends}
+use Rattle.region.proofs.Seam.{Counting, counting-room}
 use Rattle.region.proofs.build_flagged.Statement.{statement}
 use Rattle.region.proofs.build_flagged.Tie as tie
 
@@ -15,10 +17,10 @@ abbrev μ-loop : tie.MeasureT-loop
 μ-loop count flag region₀ i₀ region i = count - i
 
 abbrev Inv-loop2 : tie.InvT-loop2
-Inv-loop2 count flag region₀ i last from₀ k₀ region from k = Working (region₀ .vertices) count flag region from k
+Inv-loop2 count flag region₀ i last from₀ seam-count₀ k₀ region from seam-count k = Working (region₀ .vertices) count flag region from k × Counting (take count (region₀ .vertices)) seam-count from k
 
 abbrev μ-loop2 : tie.MeasureT-loop2
-μ-loop2 count flag region₀ i last from₀ k₀ region from k = count - k
+μ-loop2 count flag region₀ i last from₀ seam-count₀ k₀ region from seam-count k = count - k
 
 refused-requires : tie.Need-refused-requires Inv-loop μ-loop Inv-loop2 μ-loop2
 refused-requires c κs = search needs
@@ -92,7 +94,11 @@ element-copy-out-from : tie.Need-element-copy-out-from Inv-loop μ-loop Inv-loop
 element-copy-out-from c = search needs
 
 loop2-holds : tie.Need-loop2-holds Inv-loop μ-loop Inv-loop2 μ-loop2
-loop2-holds c = working-starts (c .before .before .loop .inv) (c .before .before .before .before .before .if1 .left) (c .before .before .before .before .if2 .left)
+loop2-holds c =
+    let inv = c .before .before .loop .inv in
+    let some = c .before .before .before .before .before .if1 .left in
+    let few = c .before .before .before .before .if2 .left in
+    (working-starts inv some few, seams-first inv some few)
 
 mul-to : tie.Need-mul-to Inv-loop μ-loop Inv-loop2 μ-loop2
 mul-to c = search needs
@@ -109,6 +115,18 @@ mul-n c = search needs
 element-set-from-n : tie.Need-element-set-from-n Inv-loop μ-loop Inv-loop2 μ-loop2
 element-set-from-n c = search needs
 
+crosses-seam-requires : tie.Need-crosses-seam-requires Inv-loop μ-loop Inv-loop2 μ-loop2
+crosses-seam-requires c κs = search needs
+
+cast-seam-count : tie.Need-cast-seam-count Inv-loop μ-loop Inv-loop2 μ-loop2
+cast-seam-count c = search needs
+
+add-seam-count : tie.Need-add-seam-count Inv-loop μ-loop Inv-loop2 μ-loop2
+add-seam-count c =
+    let few = c .before .before .before .before .before .before .before .before .before .if2 .left in
+    let below = c .before .before .before .loop2-test .taken in
+    record { fits = counting-room (c .before .before .before .before .loop2 .inv .1) (omega (arith, few, below)) (c .crosses-seam .result) }
+
 add-k : tie.Need-add-k Inv-loop μ-loop Inv-loop2 μ-loop2
 add-k c = search needs
 
@@ -116,12 +134,17 @@ loop2-less : tie.Need-loop2-less Inv-loop μ-loop Inv-loop2 μ-loop2
 loop2-less c = search needs
 
 loop2-again : tie.Need-loop2-again Inv-loop μ-loop Inv-loop2 μ-loop2
-loop2-again c = working-turn (c .before .before .before .loop2 .inv) (c .before .before .before .before .before .before .loop .inv .corners) (c .before .before .before .before .before .before .before .before .if2 .left) (c .before .before .loop2-test .taken) _ (c .edge-normal .ensures)
+loop2-again c =
+    let inv = c .before .before .before .before .loop2 .inv in
+    let full = c .before .before .before .before .before .before .before .loop .inv .corners in
+    let few = c .before .before .before .before .before .before .before .before .before .if2 .left in
+    let below = c .before .before .before .loop2-test .taken in
+    (working-turn (inv .0) full few below _ (c .before .edge-normal .ensures), seams-next (inv .0) (inv .1) full few below _ (c .crosses-seam .ensures))
 
 returns-4 : tie.Need-returns-4 Inv-loop μ-loop Inv-loop2 μ-loop2
 returns-4 c =
     let e : length (c .before .before .before .before .before .before .before .before .args .points) ≡ 64 = search needs in
-    ends (c .before .before .before .before .loop .inv) (c .before .loop2 .inv) e (c .before .before .before .before .before .before .before .if1 .left) (c .before .before .before .before .before .before .if2 .left) (c .before .before .before .loop-test .left) (c .loop2-test .left)
+    ends (c .before .before .before .before .loop .inv) (c .before .loop2 .inv .0) (c .before .loop2 .inv .1) e (c .before .before .before .before .before .before .before .if1 .left) (c .before .before .before .before .before .before .if2 .left) (c .before .before .before .loop-test .left) (c .loop2-test .left)
 
 pub build-flagged-spec : {M : Type 1} → statement M
 build-flagged-spec =
@@ -158,6 +181,9 @@ build-flagged-spec =
     edge-normal-requires
     mul-n
     element-set-from-n
+    crosses-seam-requires
+    cast-seam-count
+    add-seam-count
     add-k
     loop2-less
     loop2-again
