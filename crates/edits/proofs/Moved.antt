@@ -1,7 +1,7 @@
 -- A region's arrays while a corner is put in or taken out, and after: the entries in use, and the view.
 use Prim.Native.Nat.{ℕ, zero, suc, _+_, _-_, _≤_, _<_}
 use native.Mathlib.Omega.{arith}
-use mathlib.Core.Path.{_≡_, refl, sym, ap, subst, _∙_}
+use mathlib.Core.Path.{_≡_, sym, ap, _∙_}
 use mathlib.Core.Bool.{Bool, cond}
 use mathlib.Core.List.{List, _∷_}
 use borrow.Author.Tests.{ne-eqb}
@@ -12,7 +12,7 @@ use Rattle.coo3d.specs.declared.Coo3D.{Coo3D}
 use Rattle.coo3d.specs.declared.Vect3.{Vect3}
 use Rattle.lists.specs.Cyclic.{lastOf, ins, del, prevOf, nextOf, thereOf, beforeOf, insAlong, delAlong}
 use Rattle.lists.proofs.Cyclic.{length-ins, length-del, last-inserted, last-deleted}
-use Rattle.lists.proofs.Shifts.{halves, started, moved, finished, raised-at, filled, front-at, next-at, carrying, carry-starts, carry-turn, carry-ends, carry-here}
+use Rattle.lists.proofs.Shifts.{halves, started, moved, finished, front-at, next-at, carrying, carry-starts, carry-turn, carry-ends, carry-here}
 use Rattle.region.specs.declared.Region.{Region}
 use Rattle.region.specs.Edges.{normalOf}
 use Rattle.region.specs.View.{View, viewOf, withCorners, seamsOf, nowhere}
@@ -108,38 +108,7 @@ pub record NormalsMove (how : List Vect3 → Type 0) (r o : Region) : Type 0 whe
   pub corners : o .vertices ≡ r .vertices
   pub flag : o .«contains_south_pole» ≡ r .«contains_south_pole»
 
--- ---- making room: the entries from i on move up, the last first
-
-module _ {A : Type 0} (d : A) where
-  pub record Raising (n i : ℕ) (before now : List A) (k : ℕ) : Type 0 where
-    pub least : i ≤ k
-    pub most : k ≤ n
-    pub size : length now ≡ 64
-    pub left : halves d now (n + 1) k ≡ take n before
-
-  pub raising-starts : (l : List A) (n i : ℕ) → length l ≡ 64 → i ≤ n → n < 64 → Raising n i l l n
-  raising-starts l n i e h few = record { least = h; most = omega arith; size = e; left = finished d l (n + 1) n refl (omega (arith, e, few)) }
-
-  pub raising-turn : {n i : ℕ} {before now : List A} {k : ℕ} → Raising n i before now k → i < k → n < 64 → Raising n i before (set now k (getD now (k - 1) d)) (k - 1)
-  raising-turn {n} {i} {before} {now} {k} inv above few =
-      let most = inv .most in
-      let e = inv .size in
-      record {
-        least = omega (arith, above);
-        most = omega (arith, most);
-        size = length-set now k _ ∙ e;
-        left = raised-at d now (n + 1) (k - 1) k (omega (arith, above)) (omega (arith, most)) (omega (arith, e, few)) ∙ inv .left;
-      }
-
-  pub raised-in : {n i : ℕ} {before now : List A} {k : ℕ} → Raising n i before now k → k ≤ i → n < 64 → (a : A) → take (n + 1) (set now i a) ≡ ins i a (take n before)
-  raised-in {n} {i} {before} {now} {k} inv past few a =
-      let least = inv .least in
-      let most = inv .most in
-      let e = inv .size in
-      let at : k ≡ i = omega (arith, past, least) in
-      filled d now (take n before) (n + 1) i a (omega (arith, past, least, most)) (omega (arith, e, few)) (subst (λ (x : ℕ). halves d now (n + 1) x ≡ take n before) at (inv .left))
-
--- ---- making room from the front: p takes the place of corner i, which is carried on
+-- ---- making room: p takes the place of entry i, which is carried on to the next, and so on
 
 module _ {A : Type 0} (d : A) where
   pub record Carrying (n i : ℕ) (p : A) (before now : List A) (k : ℕ) (c : A) : Type 0 where
@@ -166,7 +135,7 @@ module _ {A : Type 0} (d : A) where
       let e = inv .size in
       ap (λ (l : List A). getD l k d) (sym (inv .left)) ∙ carry-here d now n k c (omega (arith, most, e, few))
 
-  -- and the corners before i stand where they did
+  -- and the entries before i stand where they did
   pub kept-before : (l : List A) (n i k : ℕ) (p : A) → k < i → i ≤ n → n ≤ length l → getD (ins i p (take n l)) k d ≡ getD l k d
   kept-before l n i k p h hn hl = ap (λ (m : List A). getD m k d) (sym (carry-starts d l n i p hn)) ∙ front-at d l (p ∷ drop i (take n l)) i k h (omega (arith, hn, hl))
 
@@ -177,18 +146,18 @@ module _ {A : Type 0} (d : A) where
       let at : n ≡ k = omega (arith, past, most) in
       carry-ends d now n c (omega (arith, e, few)) ∙ ap (λ (x : ℕ). carrying d now n x c) at ∙ inv .left
 
-pub inserted : {r one o : Region} {i k m : ℕ} {p c : Coo3D} → CornersMove (λ l. Carrying nowhere (r .count) i p (r .vertices) l k c) r one → r .count ≤ k
-    → NormalsMove (λ l. Raising nothing (r .count) i (one .«cross_products») l m) (record { vertices = set (one .vertices) (r .count) c; «cross_products» = one .«cross_products»; count = one .count; «contains_south_pole» = one .«contains_south_pole»; «seam_count» = one .«seam_count» }) o → m ≤ i → r .count < 64
-    → (t j : ℕ) (from : Coo3D) (a b : Vect3) → r .count ≤ length (r .vertices)
+pub inserted : {r one o : Region} {i k m : ℕ} {p c : Coo3D} {a d : Vect3} → CornersMove (λ l. Carrying nowhere (r .count) i p (r .vertices) l k c) r one → r .count ≤ k
+    → NormalsMove (λ l. Carrying nothing (r .count) i a (one .«cross_products») l m d) (record { vertices = set (one .vertices) (r .count) c; «cross_products» = one .«cross_products»; count = one .count; «contains_south_pole» = one .«contains_south_pole»; «seam_count» = one .«seam_count» }) o → r .count ≤ m → r .count < 64
+    → (t j : ℕ) (from : Coo3D) (b : Vect3) → r .count ≤ length (r .vertices)
     → from ≡ beforeOf nowhere (take (r .count) (r .vertices)) i → j ≡ nextOf (r .count + 1) i → j < r .count + 1 → a ≡ normalOf from p → b ≡ normalOf p (getD (o .vertices) j nowhere)
     → t ≡ seamsOf (ins i p (take (r .count) (r .vertices)))
-    → used (r .count + 1) (o .vertices) (set (set (o .«cross_products») i a) j b) (o .«contains_south_pole») t ≡ changed (insert i p) (viewOf r)
-inserted {r} {one} {o} {i} {k} {m} {p} {c} cs past ns also few t j from a b long hf hj below h1 h2 ht =
+    → used (r .count + 1) (o .vertices) (set (set (o .«cross_products») (r .count) d) j b) (o .«contains_south_pole») t ≡ changed (insert i p) (viewOf r)
+inserted {r} {one} {o} {i} {k} {m} {p} {c} {a} {d} cs past ns also few t j from b long hf hj below h1 h2 ht =
     let n = r .count in
     let vertices : take (n + 1) (o .vertices) ≡ ins i p (take n (r .vertices)) = ap (λ (l : List Coo3D). take (n + 1) l) (ns .corners) ∙ carried-in nowhere (cs .corners) past few in
-    let normals : take (n + 1) (set (o .«cross_products») i a) ≡ ins i a (take n (r .«cross_products»)) = raised-in nothing (ns .normals) also few a ∙ ap (λ (l : List Vect3). ins i a (take n l)) (cs .normals) in
-    ap (λ (f : Bool). used (n + 1) (o .vertices) (set (set (o .«cross_products») i a) j b) f t) (ns .flag ∙ cs .flag)
-    ∙ view-inserted (r .vertices) (o .vertices) (r .«cross_products») (set (o .«cross_products») i a) n i j (r .«contains_south_pole») (r .«seam_count») t from p a b long hf hj below vertices h1 h2 normals ht
+    let normals : take (n + 1) (set (o .«cross_products») n d) ≡ ins i a (take n (r .«cross_products»)) = carried-in nothing (ns .normals) also few ∙ ap (λ (l : List Vect3). ins i a (take n l)) (cs .normals) in
+    ap (λ (f : Bool). used (n + 1) (o .vertices) (set (set (o .«cross_products») n d) j b) f t) (ns .flag ∙ cs .flag)
+    ∙ view-inserted (r .vertices) (o .vertices) (r .«cross_products») (set (o .«cross_products») n d) n i j (r .«contains_south_pole») (r .«seam_count») t from p a b long hf hj below vertices h1 h2 normals ht
 
 -- ---- closing a gap: the entries after i move down, the first first
 
@@ -214,7 +183,7 @@ module _ {A : Type 0} (d : A) where
       let e = inv .size in
       ap (λ (l : List A). getD l k d) (sym (inv .left)) ∙ next-at d now n k h (omega (arith, e, few))
 
-  -- and the corners before i stand where they did
+  -- and the entries before i stand where they did
   pub left-before : (l : List A) (n i k : ℕ) → k < i → i ≤ n → n ≤ length l → getD (del i (take n l)) k d ≡ getD l k d
   left-before l n i k h hn hl = ap (λ (m : List A). getD m k d) (sym (started d l n i hn)) ∙ front-at d l (drop (i + 1) (take n l)) i k h (omega (arith, hn, hl))
 

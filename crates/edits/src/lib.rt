@@ -135,8 +135,8 @@ pub fn put(r: Region, i: usize, corner: Coo3D) -> EditAnswer
 }
 
 // Before corner i; i equal to the count appends. The new corner's two normals are worked out, the others move with their corners, each array in a
-// loop of its own: one loop over both was slower. The corners are passed in order, the first i as they are, and their edges counted as in put.
-// The answer is made as put's is.
+// loop of its own: one loop over both was slower. Each takes the place of the next, which is carried on. The corners are passed in order, the first i as
+// they are, and their edges counted as in put. The answer is made as put's is.
 pub fn insert(r: Region, i: usize, corner: Coo3D) -> EditAnswer
     ensures { λ a. ⌜ Edited (edit.insert i corner) r a ⌝ }
 {
@@ -177,17 +177,17 @@ pub fn insert(r: Region, i: usize, corner: Coo3D) -> EditAnswer
             region.vertices[count] = carried;
             let crosses = region::crosses_seam(start, carried);
             seam_count += crosses as usize;
-            let mut m = count;
-            while m > i {
-                let l = m - 1;
-                let n = region.cross_products[l];
-                region.cross_products[m] = n;
-                m = l;
+            let mut normal = region::edge_normal(from, p);
+            let mut m = i;
+            while m < count {
+                let n = region.cross_products[m];
+                region.cross_products[m] = normal;
+                normal = n;
+                m += 1;
             }
+            region.cross_products[count] = normal;
             let to = region.vertices[j];
-            let before = region::edge_normal(from, p);
             let after = region::edge_normal(p, to);
-            region.cross_products[i] = before;
             region.cross_products[j] = after;
             region.count = count + 1;
             region.seam_count = seam_count;

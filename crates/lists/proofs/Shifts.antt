@@ -1,11 +1,11 @@
 -- A list of which the elements after one are moved by one place, a store a turn: what it comes to. For any type of elements. Assumes nothing.
-use Prim.Native.Nat.{ℕ, zero, suc, pred, _+_, _-_, _≤_, _<_}
+use Prim.Native.Nat.{ℕ, zero, suc, _+_, _≤_, _<_}
 use native.Mathlib.Numerals.{add-one}
 use native.Mathlib.Omega.{arith}
 use mathlib.Core.Path.{_≡_, refl, sym, ap, _∙_}
 use mathlib.Core.List.{List, [], _∷_, _++_, append-assoc, append-nil}
-use lib.ListN.{length, take, drop, getD, set, drop-of-length-le, length-set, List·getD-append}
-use lib.Seq.{take-suc, getD-set-same, drop-cons, getD-take, length-take-le, take-suc-set, take-set-lt, take-take, take-set-le, set-split, drop-set-lt, take-at, drop-at, getD-at}
+use lib.ListN.{length, take, drop, getD, set, drop-of-length-le, List·getD-append}
+use lib.Seq.{drop-cons, getD-take, length-take-le, take-suc-set, take-set-lt, take-take, drop-set-lt, getD-at}
 use Rattle.lists.specs.Cyclic.{ins, del}
 use Rattle.lists.proofs.Passing.{next-left, none-left, stored}
 
@@ -43,34 +43,6 @@ module _ {A : Type 0} (d : A) where
 
   pub started : (l : List A) (n i : ℕ) → i ≤ n → halves l n i ≡ del i (take n l)
   started l n i h = rw (del-is i (take n l), take-take i n l h, add-one)
-
-  -- the same way back, for a loop that makes room: from the hole at j + 1 to the hole at j
-  pub raised : (l : List A) (n j : ℕ) → j + 1 < n → n ≤ length l → halves (set l (j + 1) (getD l j d)) n j ≡ halves l n (j + 1)
-  raised l n j h hl =
-      let v = getD l j d in
-      let lt : j + 1 < length (take n l) = rw (length-take-le n l hl) h in
-      let lt' : j + 1 < length (set (take n l) (j + 1) v) = rw (length-set (take n l) (j + 1) v) lt in
-      let le : j ≤ j + 1 = omega arith in
-      let b : j < length l = omega arith in
-      let u : j + 1 < suc (j + 1) = omega arith in
-      let left : halves (set l (j + 1) v) n j ≡ take j l ++ (v ∷ drop (suc (j + 1)) (take n l)) =
-      rw (take-set-le j l (j + 1) v le, take-set-lt n l (j + 1) v h, drop-cons (set (take n l) (j + 1) v) (j + 1) d lt', getD-set-same (take n l) (j + 1) v d lt, drop-set-lt (suc (j + 1)) (take n l) (j + 1) v u) in
-      let right : halves l n (j + 1) ≡ take j l ++ (v ∷ drop (suc (j + 1)) (take n l)) =
-      rw (add-one (j + 1), add-one j, take-suc l j d b, append-assoc) in
-      left ∙ sym right
-
-  -- stated at any k that is j + 1, since the code has j as k - 1
-  pub raised-at : (l : List A) (n j k : ℕ) → k ≡ j + 1 → k < n → n ≤ length l → halves (set l k (getD l j d)) n j ≡ halves l n k
-  raised-at l n j k e h hl = let h' : j + 1 < n = omega arith in rw e (raised l n j h' hl)
-
-  pub filled : (l o : List A) (n i : ℕ) (a : A) → i < n → n ≤ length l → halves l n i ≡ o → take n (set l i a) ≡ ins i a o
-  filled l o n i a h hl e =
-      let lt : i < length (take n l) = rw (length-take-le n l hl) h in
-      let le : i ≤ n = omega arith in
-      let len : length (take i l) ≡ i = length-take-le i l (omega arith) in
-      let left : take n (set l i a) ≡ take i l ++ (a ∷ drop (i + 1) (take n l)) =
-      rw (take-set-lt n l i a h, set-split (take n l) i a lt, take-take i n l le, add-one i) in
-      left ∙ rw (ins-is i a o, ← e, take-at (take i l) (drop (i + 1) (take n l)) i len, drop-at (take i l) (drop (i + 1) (take n l)) i len)
 
   -- the entries before the hole, and the one that comes into it
   pub front-at : (l rest : List A) (k i : ℕ) → i < k → k ≤ length l → getD (take k l ++ rest) i d ≡ getD l i d

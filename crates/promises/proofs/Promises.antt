@@ -3,7 +3,7 @@ use Rattle.edit_theorem.proofs.Made.{edits-made}
 use Rattle.edit_theorem.proofs.Theorem.{edit-theorem}
 use Rattle.great_circles.proofs.Head.{first-is-head}
 use Rattle.marked_cases.proofs.Cases.{marked-cases}
-use Rattle.region.proofs.Made.{build-made}
+use Rattle.region.proofs.Made.{build-made, seams-made}
 use Rattle.region_file.proofs.Made.{read-made}
 use Rattle.region_file.proofs.RoundTrips.{read-written, write-read}
 use Rattle.root.proofs.Rounded.{sqrt-rounded, one-rounded}
@@ -21,5 +21,6 @@ promises =
       build-made = build-made;
       read-made = read-made;
       edits-made = edits-made;
+      seams-made = seams-made;
       marked-cases = marked-cases;
     }

@@ -27,7 +27,7 @@ use Rattle.region.specs.declared.Region.{Region}
 use Rattle.region.specs.Made.{IsMade}
 use Rattle.region.specs.Poles.{fixedRule}
 use Rattle.region.specs.Region.{buildOf, Builds}
-use Rattle.region.specs.View.{View, viewOf}
+use Rattle.region.specs.View.{View, viewOf, seamsOf}
 use Rattle.region_file.specs.File.{fileLength, fileOf, readOf}
 use Rattle.root.specs.Root.{sqrtOf}
 use Rattle.root.specs.Rounded.{Rounded}
@@ -53,5 +53,7 @@ pub record Promises : Type 0 where
   pub build-made : (points : List Coo3D) (count : ℕ) (rule : ContainsSouthPoleMethod) (v : View) → areDoubles (take count points) ≡ true → buildOf points count rule ≡ answered v → IsMade v
   pub read-made : (s : List ℕ) (v : View) → readOf s ≡ answered v → IsMade v
   pub edits-made : (r last : Region) (es : List Edit) → IsMade (viewOf r) → editsOfDoubles es ≡ true → Run r es last → IsMade (viewOf last)
+  -- In every made region the stored seam count is that of its corners.
+  pub seams-made : (v : View) → IsMade v → v .seamCount ≡ seamsOf (v .corners)
   -- Document 01's marked cases hold of S.
   pub marked-cases : MarkedCases (buildOf corners 4 Default)

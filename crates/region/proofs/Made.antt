@@ -1,6 +1,6 @@
 -- Laws of made regions.
 use Prim.Native.Nat.{ℕ}
-use mathlib.Core.Path.{_≡_, refl, sym, subst}
+use mathlib.Core.Path.{_≡_, refl, sym, ap, subst}
 use mathlib.Core.Bool.{Bool, true}
 use mathlib.Core.List.{List}
 use lib.ListN.{length, take}
@@ -10,7 +10,7 @@ use Rattle.domain.proofs.Inside.{Good, points-good, points-back, back-in, back-
 use Rattle.domain.proofs.Points.{points-count}
 use Rattle.refusal.specs.Answer.{answered}
 use Rattle.region.specs.declared.ContainsSouthPoleMethod.{ContainsSouthPoleMethod}
-use Rattle.region.specs.View.{View, made}
+use Rattle.region.specs.View.{View, seamsOf, made}
 use Rattle.region.specs.Region.{buildOf}
 use Rattle.region.specs.Made.{IsMade}
 use Rattle.region.proofs.Builds.{build-answered, built-good}
@@ -24,6 +24,10 @@ made-good v m =
 
 pub good-made : (cs : List Coo3D) (flag : Bool) → Good cs → areDoubles cs ≡ true → IsMade (made cs flag)
 good-made cs flag g d = record { legal = points-good cs g; doubles = d; view = refl }
+
+-- the seam count that it stores is that of its corners
+pub seams-made : (v : View) → IsMade v → v .seamCount ≡ seamsOf (v .corners)
+seams-made v m = ap (λ (w : View). w .seamCount) (m .view)
 
 -- a build that was not refused, of points that are doubles
 pub build-made : (points : List Coo3D) (count : ℕ) (rule : ContainsSouthPoleMethod) (v : View) → areDoubles (take count points) ≡ true → buildOf points count rule ≡ answered v → IsMade v

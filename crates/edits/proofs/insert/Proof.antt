@@ -1,5 +1,5 @@
 -- `edits::insert` meets its contract. Assumes nothing.
-use Prim.Native.Nat.{_+_, _-_, _≤_, _<_}
+use Prim.Native.Nat.{_-_, _≤_, _<_}
 use native.Mathlib.Omega.{arith}
 use mathlib.Core.Path.{_≡_, refl, sym, ap, _∙_}
 use lib.ListN.{length, take}
@@ -11,7 +11,7 @@ use Rattle.region.proofs.Lengths.{unmap}
 use Rattle.region.proofs.Seam.{Counting, counting-room}
 use Rattle.edits.specs.Edits.{insert}
 use Rattle.edits.proofs.Checked.{refused-edit, done-edit, refused-by, done-by, insert-asked, insert-inside, asked-refused, asked-done}
-use Rattle.edits.proofs.Moved.{before-at, CornersMove, NormalsMove, Carrying, carrying-starts, carrying-turn, Raising, raising-starts, raising-turn, inserted}
+use Rattle.edits.proofs.Moved.{before-at, CornersMove, NormalsMove, Carrying, carrying-starts, carrying-turn, inserted}
 use Rattle.edits.proofs.Seams.{insert-starts, insert-front, insert-carried, insert-counted}
 use borrow.Author.Needs.{needs}
 use Rattle.edits.proofs.insert.Statement.{statement}
@@ -31,10 +31,10 @@ abbrev μ-loop2 : tie.MeasureT-loop2
 μ-loop2 i count region₀ p h j from last start₀ seam-count₀ k₀ carried₀ region start seam-count k carried = count - k
 
 abbrev Inv-loop3 : tie.InvT-loop3
-Inv-loop3 i count region₀ p h j from last seam-count k crosses m₀ region m = NormalsMove (λ l. Raising nothing count i (region₀ .«cross_products») l m) region₀ region
+Inv-loop3 i count region₀ p h j last seam-count k crosses normal₀ m₀ region normal m = NormalsMove (λ l. Carrying nothing count i normal₀ (region₀ .«cross_products») l m normal) region₀ region
 
 abbrev μ-loop3 : tie.MeasureT-loop3
-μ-loop3 i count region₀ p h j from last seam-count k crosses m₀ region m = m
+μ-loop3 i count region₀ p h j last seam-count k crosses normal₀ m₀ region normal m = count - m
 
 long : (c : tie.Start Inv-loop μ-loop Inv-loop2 μ-loop2 Inv-loop3 μ-loop3) → c .args .r .count < 64 → c .args .r .count ≤ length (c .args .r .vertices)
 long c room = let e : length (c .args .r .vertices) ≡ 64 = search unmap in omega (arith, room)
@@ -193,13 +193,14 @@ add-seam-count-3 c =
     let room = c .before .before .before .before .before .before .before .before .next-index .ensures .1 .1 .1 in
     record { fits = counting-room (inv .1) (omega (arith, most, room)) (c .crosses-seam3 .result) }
 
+edge-normal-requires : tie.Need-edge-normal-requires Inv-loop μ-loop Inv-loop2 μ-loop2 Inv-loop3 μ-loop3
+edge-normal-requires c κs = search needs
+
 loop3-holds : tie.Need-loop3-holds Inv-loop μ-loop Inv-loop2 μ-loop2 Inv-loop3 μ-loop3
 loop3-holds c =
-    let s = c .before .before .before .before .before .before .before .before .before .before .before .before .before .before in
-    record { normals = raising-starts nothing _ (s .args .r .count) _ (ap length (c .before .before .loop2 .inv .0 .normals) ∙ wide s) (search needs) (search needs); corners = refl; flag = refl }
-
-sub-l : tie.Need-sub-l Inv-loop μ-loop Inv-loop2 μ-loop2 Inv-loop3 μ-loop3
-sub-l c = search needs
+    let s = c .before .before .before .before .before .before .before .before .before .before .before .before .before .before .before in
+    let at : s .args .i ≤ s .args .i = omega arith in
+    record { normals = carrying-starts nothing _ (s .args .r .count) _ _ _ (ap length (c .before .before .before .loop2 .inv .0 .normals) ∙ wide s) (search needs) at at; corners = refl; flag = refl }
 
 mul-n : tie.Need-mul-n Inv-loop μ-loop Inv-loop2 μ-loop2 Inv-loop3 μ-loop3
 mul-n c = search needs
@@ -207,11 +208,14 @@ mul-n c = search needs
 element-copy-out-n : tie.Need-element-copy-out-n Inv-loop μ-loop Inv-loop2 μ-loop2 Inv-loop3 μ-loop3
 element-copy-out-n c = search needs
 
-mul-n-2 : tie.Need-mul-n-2 Inv-loop μ-loop Inv-loop2 μ-loop2 Inv-loop3 μ-loop3
-mul-n-2 c = search needs
+mul-normal : tie.Need-mul-normal Inv-loop μ-loop Inv-loop2 μ-loop2 Inv-loop3 μ-loop3
+mul-normal c = search needs
 
-element-set-from-n : tie.Need-element-set-from-n Inv-loop μ-loop Inv-loop2 μ-loop2 Inv-loop3 μ-loop3
-element-set-from-n c = search needs
+element-set-from-normal : tie.Need-element-set-from-normal Inv-loop μ-loop Inv-loop2 μ-loop2 Inv-loop3 μ-loop3
+element-set-from-normal c = search needs
+
+add-m : tie.Need-add-m Inv-loop μ-loop Inv-loop2 μ-loop2 Inv-loop3 μ-loop3
+add-m c = search needs
 
 loop3-less : tie.Need-loop3-less Inv-loop μ-loop Inv-loop2 μ-loop2 Inv-loop3 μ-loop3
 loop3-less c = search needs
@@ -219,7 +223,13 @@ loop3-less c = search needs
 loop3-again : tie.Need-loop3-again Inv-loop μ-loop Inv-loop2 μ-loop2 Inv-loop3 μ-loop3
 loop3-again c =
     let inv = c .before .before .loop3 .inv in
-    record { normals = raising-turn nothing (inv .normals) (search needs) (search needs); corners = inv .corners; flag = inv .flag }
+    record { normals = carrying-turn nothing (inv .normals) (search needs) (search needs); corners = inv .corners; flag = inv .flag }
+
+mul-normal-2 : tie.Need-mul-normal-2 Inv-loop μ-loop Inv-loop2 μ-loop2 Inv-loop3 μ-loop3
+mul-normal-2 c = search needs
+
+element-set-from-normal-2 : tie.Need-element-set-from-normal-2 Inv-loop μ-loop Inv-loop2 μ-loop2 Inv-loop3 μ-loop3
+element-set-from-normal-2 c = search needs
 
 mul-to : tie.Need-mul-to Inv-loop μ-loop Inv-loop2 μ-loop2 Inv-loop3 μ-loop3
 mul-to c = search needs
@@ -227,17 +237,8 @@ mul-to c = search needs
 element-copy-out-to : tie.Need-element-copy-out-to Inv-loop μ-loop Inv-loop2 μ-loop2 Inv-loop3 μ-loop3
 element-copy-out-to c = search needs
 
-edge-normal-requires : tie.Need-edge-normal-requires Inv-loop μ-loop Inv-loop2 μ-loop2 Inv-loop3 μ-loop3
-edge-normal-requires c κs = search needs
-
 edge-normal-requires-2 : tie.Need-edge-normal-requires-2 Inv-loop μ-loop Inv-loop2 μ-loop2 Inv-loop3 μ-loop3
 edge-normal-requires-2 c κs = search needs
-
-mul-before : tie.Need-mul-before Inv-loop μ-loop Inv-loop2 μ-loop2 Inv-loop3 μ-loop3
-mul-before c = search needs
-
-element-set-from-before : tie.Need-element-set-from-before Inv-loop μ-loop Inv-loop2 μ-loop2 Inv-loop3 μ-loop3
-element-set-from-before c = search needs
 
 mul-after : tie.Need-mul-after Inv-loop μ-loop Inv-loop2 μ-loop2 Inv-loop3 μ-loop3
 mul-after c = search needs
@@ -267,7 +268,7 @@ returns-2 c =
     let passed = c .before .before .before .before .before .before .loop2-test .left in
     let last = insert-carried (a .r .vertices) (a .r .count) (a .i) full _ (search needs) (inv .1) (inv .0 .corners) (search needs) _ (c .before .before .before .before .before .crosses-seam3 .ensures) in
     let seams = insert-counted (a .r .vertices) (a .r .count) (a .i) full _ (search needs) last (omega (arith, passed)) in
-    done-edit _ _ _ refl (done-by _ _ _ _ asked (inserted (inv .0) passed (c .before .before .before .before .loop3 .inv) (search needs) (search needs) _ _ _ _ _ full from (next .ensures .0) (next .ensures .1 .0) (c .before .edge-normal .ensures) (c .edge-normal2 .ensures) seams))
+    done-edit _ _ _ refl (done-by _ _ _ _ asked (inserted (inv .0) passed (c .before .before .before .loop3 .inv) (c .before .before .loop3-test .left) (search needs) _ _ _ _ full from (next .ensures .0) (next .ensures .1 .0) (c .before .before .before .before .edge-normal .ensures) (c .edge-normal2 .ensures) seams))
 
 pub insert-spec : {M : Type 1} → statement M
 insert-spec =
@@ -316,20 +317,20 @@ insert-spec =
     crosses-seam-requires-3
     cast-seam-count-3
     add-seam-count-3
+    edge-normal-requires
     loop3-holds
-    sub-l
     mul-n
     element-copy-out-n
-    mul-n-2
-    element-set-from-n
+    mul-normal
+    element-set-from-normal
+    add-m
     loop3-less
     loop3-again
+    mul-normal-2
+    element-set-from-normal-2
     mul-to
     element-copy-out-to
-    edge-normal-requires
     edge-normal-requires-2
-    mul-before
-    element-set-from-before
     mul-after
     element-set-from-after
     add-region

@@ -1,5 +1,5 @@
 -- `edits::put` meets its contract. Assumes nothing.
-use Prim.Native.Nat.{ℕ, _-_, _≤_, _<_}
+use Prim.Native.Nat.{ℕ, _-_, _≤_}
 use native.Mathlib.Omega.{arith}
 use mathlib.Core.Path.{_≡_, refl, sym, ap, _∙_}
 use mathlib.Core.List.{List}
@@ -71,7 +71,8 @@ loop-holds : tie.Need-loop-holds Inv-loop μ-loop
 loop-holds c =
     let s = c .before .before .before .before .before .before .before .before in
     let full = still (s .args .r .vertices) (s .args .i) _ (long s (c .before .before .before .next-index .ensures .1 .1 .1)) in
-    (search needs, seams-start _ _ full (search needs))
+    let there = c .before .before .before .next-index .ensures .1 .1 .0 in
+    (omega arith, seams-start _ _ full (omega (arith, there)))
 
 mul-end : tie.Need-mul-end Inv-loop μ-loop
 mul-end c = search needs
@@ -101,7 +102,8 @@ loop-again : tie.Need-loop-again Inv-loop μ-loop
 loop-again c =
     let s = c .before .before .before .before .before .before .before .before .before .before .before .before in
     let full = still (s .args .r .vertices) (s .args .i) _ (long s (c .before .before .before .before .before .before .before .next-index .ensures .1 .1 .1)) in
-    (search needs, seams-turn _ _ full (c .before .before .before .loop .inv .1) (c .before .before .loop-test .taken) _ (c .crosses-seam .ensures))
+    let below = c .before .before .loop-test .taken in
+    (omega (arith, below), seams-turn _ _ full (c .before .before .before .loop .inv .1) below _ (c .crosses-seam .ensures))
 
 edge-normal-requires : tie.Need-edge-normal-requires Inv-loop μ-loop
 edge-normal-requires c κs = search needs

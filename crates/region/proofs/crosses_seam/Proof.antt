@@ -1,6 +1,6 @@
 -- `region::crosses_seam` meets its contract. Assumes nothing.
 use mathlib.Core.Path.{ap, _∙_}
-use lib.Ieee.{Float, lt}
+use lib.Ieee.{lt}
 use Rattle.float.specs.Doubles.{pi}
 use Rattle.float.proofs.Magnitude.{beyond-pi}
 use Rattle.region.specs.Edges.{crossesSeam}
