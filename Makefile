@@ -15,7 +15,7 @@ help:
 	@echo 'make camera        build/camera/libjigwandor.a for a Cortex-M0 or M0+, and build/camera/jigwandor.wasm'
 	@echo 'make install       PREFIX=/usr/local: the archive for x86-64 Linux, the header, a pkg-config file, a CMake config'
 	@echo 'make dist          build/dist/jigwandor-VERSION.tar.gz, for those who have no prover'
-	@echo 'make test          the whole gate: proofs, must-fail edits, fixed list, docs/CALLS.md and docs/TRACE.md, C tests, comparison with upstream'
+	@echo 'make test          the whole gate: proofs, must-fail edits, fixed list, docs/CALLS.md, docs/POLES.md and docs/TRACE.md, C tests, comparison with upstream'
 	@echo 'make doors         the C tests alone'
 	@echo 'make camera-test   the tests on the emulated core and as WebAssembly alone'
 	@echo 'make flips         counts what single flipped bits of the example file do'

@@ -1,12 +1,14 @@
 //! answer: reads requests from standard input and writes upstream's answers to standard output.
 //! The refusals, which upstream does not have, are written here from the scope's table.
 
+mod poles;
 mod record;
 mod region_file;
 
 use std::io::{self, BufWriter, Write};
 use std::process::ExitCode;
 
+use poles::Tried;
 use record::Region;
 use stream::{
     answered, bytes_and_rest, read_request, status, within, words_of, write_word, zone_bounds_hold,
@@ -53,6 +55,7 @@ fn answer_all() -> io::Result<()> {
         region: Err(Refusal::Alone(status::NONE_GIVEN)),
         zone: None,
     };
+    let mut tried = Tried::default();
     // A request that is not whole or not known ends the program, as the end of the input does.
     while let Next::Request(row) = read_request(&mut words, &mut request)? {
         let kind = &KINDS[row];
@@ -70,8 +73,29 @@ fn answer_all() -> io::Result<()> {
         for &word in &answer {
             write_word(&mut out, word)?;
         }
+        try_poles(kind.call, &request, &kept, &mut tried).map_err(io::Error::other)?;
     }
+    tried.print();
     out.flush()
+}
+
+/// Where a request has a point and there is a region to ask, its own file's or the one now kept.
+fn try_poles(call: Call, request: &[u64], kept: &Kept, tried: &mut Tried) -> Result<(), String> {
+    match call {
+        Call::Contains | Call::Hold | Call::HoldLent => {
+            if let (Ok(region), Ok(point)) = (&kept.region, point(request, 0)) {
+                tried.at(region, &point)?;
+            }
+        }
+        Call::DoorContains | Call::DoorHold => {
+            let (file, words) = bytes_and_rest(request);
+            if let (Ok(polygon), Ok(point)) = (region_file::read(&file), point(words, 0)) {
+                tried.at(&Region::made(polygon), &point)?;
+            }
+        }
+        _ => {}
+    }
+    Ok(())
 }
 
 /// Adds what follows a status of 0; what it adds before it refuses does not count.

@@ -10,7 +10,7 @@ use std::fs::File;
 use std::num::FpCategory;
 use std::process::ExitCode;
 
-use edges::Kept;
+use edges::{doubles, Kept, Point};
 use stream::{
     describe_answer, describe_request, read_answer, read_request, status, Call, Kind, Next,
     Outcome, Part, Words, EDITS, KINDS, RULES,
@@ -103,6 +103,8 @@ struct Tally {
     cases: cases::Counts,
     /// Over the edges of the regions whose seam count was asked for.
     steps: cases::Steps,
+    /// How often (0, 0, −1) and (0, 0, 1) were not contained and were.
+    poles: [[u64; 2]; 2],
 }
 
 const CLASSES: [&str; 4] = ["finite", "zero", "infinite", "NaN"];
@@ -143,6 +145,12 @@ impl Tally {
                 }
                 Call::ParallelAll => region.count(request, false, &mut self.cases),
                 Call::SeamCount => region.count_steps(&mut self.steps),
+                Call::Contains => {
+                    let [x, y, z, _, _]: Point = doubles(request);
+                    if x == 0.0 && y == 0.0 && z.abs() == 1.0 {
+                        self.poles[usize::from(z > 0.0)][usize::from(answer[1] != 0)] += 1;
+                    }
+                }
                 _ => {}
             }
         }
@@ -183,6 +191,11 @@ impl Tally {
                     "{name} 0: {none}, 1: {one}, 2: {two}, 3 or more: {more}, at most {greatest}"
                 )),
                 _ => {}
+            }
+        }
+        if kind.call == Call::Contains {
+            for (name, [no, yes]) in ["southern", "northern"].iter().zip(&self.poles) {
+                detail(&format!("at the {name} pole: no {no}, yes {yes}"));
             }
         }
         if kind.call == Call::SeamCount {

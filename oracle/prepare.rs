@@ -21,7 +21,7 @@ const COPIED: [&str; 4] = ["mod.rs", "coo3d.rs", "zone.rs", "cone.rs"];
 /// Modules that mod.rs names and that no call of ours reaches.
 const EMPTY: [&str; 3] = ["elliptical_cone.rs", "frame.rs", "proj.rs"];
 
-const CHANGES: [Change; 9] = [
+const CHANGES: [Change; 10] = [
     // Seen from outside the crate, as coo3d already is.
     Change {
         file: "mod.rs",
@@ -56,6 +56,13 @@ const CHANGES: [Change; 9] = [
         times: 1,
         from: "\ntrait ContainsSouthPoleComputer {",
         to: "\npub trait ContainsSouthPoleComputer {",
+    },
+    // The edges in range at a point are counted.
+    Change {
+        file: "mod.rs",
+        times: 1,
+        from: "\nfn is_in_lon_range<",
+        to: "\npub fn is_in_lon_range<",
     },
     // Sine and cosine come as arguments.
     Change {

@@ -61,7 +61,7 @@ fn good_point(draw: &mut Draw, kept: &Kept) -> Point {
 fn borderline_point(draw: &mut Draw, kept: &Kept) -> Point {
     let edge = kept.edge(draw);
     let corner = edge.end;
-    match draw.below(12) {
+    match draw.below(14) {
         0 => corner,
         // On a corner's meridian, or next to it.
         1 | 2 => point_at(draw.near(corner[3]), draw.between(-HALF_PI, HALF_PI)),
@@ -102,6 +102,10 @@ fn borderline_point(draw: &mut Draw, kept: &Kept) -> Point {
             let point = good_point(draw, kept);
             with_vector(&point, &shrunk(&vector(&point), draw.whole(1, 1080)))
         }
+        11 | 12 => {
+            let lon = edge.lon(draw);
+            pole(draw, &[lon, corner[3], 0.0, -0.0, HALF_PI, PI, TWO_PI])
+        }
         _ => {
             let mut point = good_point(draw, kept);
             let field = draw.index(POINT_WORDS);
@@ -110,6 +114,22 @@ fn borderline_point(draw: &mut Draw, kept: &Kept) -> Point {
             point
         }
     }
+}
+
+/// A pole by its coordinates, with one of these longitudes or any, and a latitude of its own.
+fn pole(draw: &mut Draw, lons: &[f64]) -> Point {
+    let zero = draw.either_sign(0.0);
+    let z = draw.either_sign(1.0);
+    let any = draw.between(0.0, TWO_PI);
+    let lon = draw.pick(lons);
+    let lat = draw.between(-HALF_PI, HALF_PI);
+    [
+        zero,
+        zero,
+        z,
+        draw.pick(&[lon, any]),
+        draw.pick(&[HALF_PI, -HALF_PI, 0.0, -0.0, lat]),
+    ]
 }
 
 // Arcs

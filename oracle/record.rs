@@ -44,6 +44,10 @@ impl Region {
         }
     }
 
+    pub fn is_made(&self) -> bool {
+        matches!(self.origin, Origin::Made)
+    }
+
     fn count(&self) -> u64 {
         self.polygon.vertices.len() as u64
     }

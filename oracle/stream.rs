@@ -840,7 +840,7 @@ fn describe(parts: &[Part], mut lent: usize, words: &[u64]) -> Vec<String> {
 }
 
 /// A point's or a vector's fields.
-fn describe_fields(words: &[u64]) -> String {
+pub fn describe_fields(words: &[u64]) -> String {
     let fields: Vec<String> = FIELDS
         .iter()
         .zip(words)

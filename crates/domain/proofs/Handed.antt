@@ -1,7 +1,7 @@
 -- What holds of a point that the check hands back. Whoever goes on with such a point cites these; nothing else looks into `pointAt`, so that what is
 -- handed back can change in one place.
 use Prim.Native.Nat.{ℕ}
-use mathlib.Core.Path.{_≡_, refl, sym, subst}
+use mathlib.Core.Path.{_≡_, refl, sym, ap, subst}
 use mathlib.Core.Bool.{Bool, true, false, not}
 use mathlib.Core.List.{[], _∷_}
 use Rattle.coo3d.specs.declared.Coo3D.{Coo3D}
@@ -31,6 +31,10 @@ module _ (i : ℕ) (p q : Coo3D) (e : pointAt i p ≡ answered q) where
   -- the point as it was given
   pub handed-same : q ≡ p
   handed-same = sym (tested .1)
+
+  -- where the point is
+  pub handed-place : (q .x ≡ p .x) × (q .y ≡ p .y) × (q .z ≡ p .z)
+  handed-place = (ap (λ (c : Coo3D). c .x) handed-same, ap (λ (c : Coo3D). c .y) handed-same, ap (λ (c : Coo3D). c .z) handed-same)
 
   pub handed-in : inDomain q ≡ true
   handed-in = subst (λ (x : Coo3D). inDomain x ≡ true) (tested .1) (tested .0)

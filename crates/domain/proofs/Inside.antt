@@ -96,7 +96,7 @@ pub back-same : {ps qs : List Coo3D} → HandedBack ps qs → qs ≡ ps
 back-same back-none = refl
 back-same (back-more {p = p} {q = q} i e t) = rw (handed-same i p q e, back-same t)
 
--- ---- a point of the domain is finite
+-- ---- a point of the domain is finite, and has its place from -2 to 2
 
 pub record Finite (p : Coo3D) : Type 0 where
   pub x : isFinite (p .x) ≡ true
@@ -105,18 +105,35 @@ pub record Finite (p : Coo3D) : Type 0 where
   pub lon : isFinite (p .lon) ≡ true
   pub lat : isFinite (p .lat) ≡ true
 
-pub finite-inside : (p : Coo3D) → inDomain p ≡ true → Finite p
+pub record Placed (p : Coo3D) : Type 0 where
+  pub x : inclusive (neg two) (p .x) two ≡ true
+  pub y : inclusive (neg two) (p .y) two ≡ true
+  pub z : inclusive (neg two) (p .z) two ≡ true
+
+inside-parts : (p : Coo3D) → inDomain p ≡ true → Finite p × Placed p
 unfolding inDomain
-finite-inside p h =
+inside-parts p h =
     let xy = isFinite (p .x) && isFinite (p .y) in
     let f = xy && isFinite (p .z) && isFinite (p .lon) && isFinite (p .lat) in
-    let v = inclusive (neg two) (p .x) two && inclusive (neg two) (p .y) two && inclusive (neg two) (p .z) two in
-    let a = (both f v ((both (f && v) (inclusive nought (p .lon) twoPi) ((both (f && v && inclusive nought (p .lon) twoPi) (inclusive (neg halfPi) (p .lat) halfPi) h) .0)) .0)) .0 in
-    let b = both (xy && isFinite (p .z) && isFinite (p .lon)) (isFinite (p .lat)) a in
+    let in-x = inclusive (neg two) (p .x) two in
+    let in-y = inclusive (neg two) (p .y) two in
+    let in-z = inclusive (neg two) (p .z) two in
+    let v = in-x && in-y && in-z in
+    let a = both f v ((both (f && v) (inclusive nought (p .lon) twoPi) ((both (f && v && inclusive nought (p .lon) twoPi) (inclusive (neg halfPi) (p .lat) halfPi) h) .0)) .0) in
+    let b = both (xy && isFinite (p .z) && isFinite (p .lon)) (isFinite (p .lat)) (a .0) in
     let c = both (xy && isFinite (p .z)) (isFinite (p .lon)) (b .0) in
     let d = both xy (isFinite (p .z)) (c .0) in
     let e = both (isFinite (p .x)) (isFinite (p .y)) (d .0) in
-    record { x = e .0; y = e .1; z = d .1; lon = c .1; lat = b .1 }
+    let g = both (in-x && in-y) in-z (a .1) in
+    let k = both in-x in-y (g .0) in
+    (record { x = e .0; y = e .1; z = d .1; lon = c .1; lat = b .1 }, record { x = k .0; y = k .1; z = g .1 })
 
-pub settled-finite : (p : Coo3D) → Settled p → Finite p
-settled-finite p h = finite-inside p (handed-in 0 p p (h 0))
+pub finite-inside : (p : Coo3D) → inDomain p ≡ true → Finite p
+finite-inside p h = inside-parts p h .0
+
+module _ (p : Coo3D) (h : Settled p) where
+  pub settled-finite : Finite p
+  settled-finite = finite-inside p (handed-in 0 p p (h 0))
+
+  pub settled-placed : Placed p
+  settled-placed = inside-parts p (handed-in 0 p p (h 0)) .1

@@ -11,40 +11,10 @@ use borrow.Author.Tests.{eq-eqb, ne-eqb}
 use lib.Dec.{eqb}
 use lib.ListN.{length, getD, set, length-set}
 use lib.Seq.{getD-set-other}
+use Rattle.lists.specs.Counts.{exactlyOne, oddMany}
 use Rattle.lists.specs.Cyclic.{lastOf, ins, del, along, nextOf, thereOf, beforeOf, putAlong, insAlong, delAlong}
 use Rattle.lists.proofs.Cyclic.{same-or-not, length-from, length-ins, length-del, put-one, ins-one, del-one}
-use Rattle.region.specs.View.{exactlyOne, oddMany}
-use Rattle.region.proofs.Odd.{one-assoc, one-false, false-one}
-
--- an odd number of marks is set
-abbrev pub odd : List Bool → Bool
-odd l = oddMany (λ b. b) l
-
--- ---- sums of `exactlyOne`, put in order
-
-one-comm : (a b : Bool) → exactlyOne a b ≡ exactlyOne b a
-one-comm true true = refl
-one-comm true false = refl
-one-comm false true = refl
-one-comm false false = refl
-
-one-self : (a : Bool) → exactlyOne a a ≡ false
-one-self true = refl
-one-self false = refl
-
-one-left : (a b c : Bool) → exactlyOne a (exactlyOne b c) ≡ exactlyOne b (exactlyOne a c)
-one-left a b c = sym (one-assoc a b c) ∙ ap (λ (x : Bool). exactlyOne x c) (one-comm a b) ∙ one-assoc b a c
-
-one-twice : (a b : Bool) → exactlyOne a (exactlyOne a b) ≡ b
-one-twice true true = refl
-one-twice true false = refl
-one-twice false true = refl
-one-twice false false = refl
-
-ruleset xor = (one-assoc, one-comm, one-left, one-self, one-twice, one-false, false-one)
-
-pub by-way : (x y z : Bool) → exactlyOne x z ≡ exactlyOne (exactlyOne x y) (exactlyOne y z)
-by-way x y z = simp xor
+use Rattle.lists.proofs.Odd.{odd, xor, by-way, one-left, one-false}
 
 cancel : (b x o : Bool) → exactlyOne (exactlyOne b o) (exactlyOne x o) ≡ exactlyOne x b
 cancel b x o = simp xor

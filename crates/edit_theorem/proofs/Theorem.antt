@@ -6,6 +6,7 @@ use lib.ListN.{length}
 use Rattle.crossings.specs.Crossings.{Lists}
 use Rattle.domain.proofs.Inside.{Good}
 use Rattle.great_circles.specs.Queries.{arcFirstOf, arcAllOf, isIntersectingArc, circleAllOf}
+use Rattle.lists.specs.Counts.{exactlyOne}
 use Rattle.parallels.specs.Queries.{parallelFirstOf, parallelAllOf, isIntersectingParallel}
 use Rattle.refusal.specs.Answer.{Answer, answered, refused, andThen, outcomeOf, verdict}
 use Rattle.refusal.specs.declared.Cause.{Cause}
@@ -13,7 +14,7 @@ use Rattle.refusal.specs.declared.Outcome.{Outcome}
 use Rattle.refusal.specs.declared.Outcome.the-variants.{Done, Refused}
 use Rattle.refusal.proofs.Answers.{never}
 use Rattle.region.specs.declared.Region.{Region}
-use Rattle.region.specs.View.{View, viewOf, exactlyOne, contained}
+use Rattle.region.specs.View.{View, viewOf, contained}
 use Rattle.region.specs.Region.{buildOf, containsOf, seamCountOf}
 use Rattle.region.proofs.Building.{built-view}
 use Rattle.edits.specs.declared.EditAnswer.{EditAnswer}

@@ -2,7 +2,7 @@
 use Prim.Native.Nat.{ℕ, zero, suc, _-_, _≤_, _<_}
 use native.Mathlib.Nat.{not-suc-le-zero}
 use native.Mathlib.Omega.{arith}
-use mathlib.Core.Path.{_≡_, refl, sym, ap, _∙_}
+use mathlib.Core.Path.{_≡_, sym, _∙_}
 use mathlib.Core.Logic.{⊎-elim}
 use mathlib.Core.Bool.{Bool, true, false}
 use mathlib.Core.List.{List, [], _∷_, _++_}
@@ -11,14 +11,17 @@ use lib.Dec.{eqb}
 use lib.ListN.{length, getD, set, length-set}
 use lib.Seq.{getD-set-same, getD-set-other}
 use Rattle.coo3d.specs.declared.Coo3D.{Coo3D}
-use Rattle.lists.specs.Cyclic.{lastOf, ins, del, along, nextOf, beforeOf}
+use Rattle.lists.specs.Counts.{exactlyOne, oddMany}
+use Rattle.lists.specs.Cyclic.{lastOf, ins, del, nextOf, beforeOf}
 use Rattle.lists.proofs.Cyclic.{same-or-not}
-use Rattle.region.specs.Edges.{normalOf, isCounted}
-use Rattle.region.specs.View.{nowhere, edgesFrom, edgesOf, exactlyOne, oddMany, oddAt, contained, normalsOf, made}
+use Rattle.lists.proofs.Odd.{odd}
+use Rattle.region.specs.Edges.{isCounted}
+use Rattle.region.specs.View.{nowhere, oddAt, contained, made}
+use Rattle.region.proofs.Drawn.{odd-drawn}
 use Rattle.edits.specs.Edits.{Edit, put, insert, remove}
 use Rattle.edit_theorem.specs.Record.{Plain, regionOf, edited, movesCorner, edge, touching, takenOut, broughtIn}
 use Rattle.edit_theorem.proofs.Legal.{Legal, legal-put, legal-insert, legal-remove, legal-turn, legal-hold, legal-rule}
-use Rattle.edit_theorem.proofs.Parity.{odd, marks, cancel', last-at, next-other, parity-put, parity-alone, parity-ins, parity-del}
+use Rattle.edit_theorem.proofs.Parity.{marks, cancel', last-at, next-other, parity-put, parity-alone, parity-ins, parity-del}
 
 -- the corner before i stays where i is put, unless it is i itself
 before-put : {C : Type 0} (d : C) (cs : List C) (i : ℕ) (p : C) → 1 < length cs → beforeOf d (set cs i p) i ≡ beforeOf d cs i
@@ -36,14 +39,9 @@ module _ (x : Coo3D) where
   abbrev oddIn : List Coo3D → Bool
   oddIn cs = odd (marks nowhere hit cs)
 
-  marked : (from : Coo3D) (cs : List Coo3D) → oddMany (isCounted x) (edgesFrom from cs (along normalOf from cs)) ≡ odd (along hit from cs)
-  unfolding oddMany edgesFrom along
-  marked from [] = refl
-  marked from (c ∷ cs) = ap (exactlyOne (hit from c)) (marked c cs)
-
   odd-made : (cs : List Coo3D) (f : Bool) → oddAt x (made cs f) ≡ oddIn cs
-  unfolding oddAt edgesOf normalsOf
-  odd-made cs f = marked (lastOf nowhere cs) cs
+  unfolding oddAt
+  odd-made cs f = odd-drawn (isCounted x) cs f
 
   contained-turns : (cs now : List Coo3D) (f : Bool) → exactlyOne (contained x (made now f)) (contained x (made cs f)) ≡ exactlyOne (oddIn now) (oddIn cs)
   unfolding contained

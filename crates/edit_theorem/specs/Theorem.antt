@@ -11,6 +11,7 @@ use Rattle.crossings.specs.declared.FirstAnswer.{FirstAnswer}
 use Rattle.crossings.specs.declared.AllAnswer.{AllAnswer}
 use Rattle.crossings.specs.Crossings.{firstAnswer, Lists}
 use Rattle.great_circles.specs.Queries.{arcFirstOf, arcAllOf, isIntersectingArc, circleAllOf}
+use Rattle.lists.specs.Counts.{exactlyOne, oddMany}
 use Rattle.parallels.specs.Queries.{parallelFirstOf, parallelAllOf, isIntersectingParallel}
 use Rattle.refusal.specs.Answer.{Answer, answered, andThen, outcomeOf, decisionAnswer, verdict}
 use Rattle.refusal.specs.declared.Decision.{Decision}
@@ -20,7 +21,7 @@ use Rattle.region.specs.declared.Built.{Built}
 use Rattle.region.specs.declared.CountAnswer.{CountAnswer}
 use Rattle.region.specs.declared.ContainsSouthPoleMethod.{ContainsSouthPoleMethod}
 use Rattle.region.specs.Edges.{isCounted}
-use Rattle.region.specs.View.{View, viewOf, made, exactlyOne, oddMany, contained}
+use Rattle.region.specs.View.{View, viewOf, made, contained}
 use Rattle.region.specs.Region.{flagOf, buildOf, containsOf, seamCountOf, countAnswer, Builds}
 use Rattle.edits.specs.declared.EditAnswer.{EditAnswer}
 use Rattle.edits.specs.Edits.{Edit, Edited}

@@ -1,5 +1,9 @@
+pub mod Axis
 pub mod Constants
 pub mod Finite
 pub mod Magnitude
 pub mod Nan
+pub mod Ordered
 pub mod Products
+pub mod Signs
+pub mod Small

@@ -1,15 +1,17 @@
 -- The larger of a double and its opposite is its magnitude, but for the sign of a zero: beyond PI both lie or neither.
 use Prim.Native.Nat.{ℕ, _+_, _*_, _≤_, _<_}
-use native.Mathlib.Nat.{eq-zero-or-pos, mul-pos}
+use native.Mathlib.Nat.{eq-zero-or-pos, mul-pos, zero-mul}
 use native.Mathlib.Omega.{arith}
-use mathlib.Core.Path.{_≡_, refl, sym}
-use mathlib.Core.Bool.{Bool, true, false, cond}
+use mathlib.Core.Path.{_≡_, refl, sym, ap, _∙_}
+use mathlib.Core.Bool.{Bool, true, false, not, cond, false≢true, true≢false}
 use mathlib.Core.Logic.{⊎-elim}
 use lib.Dec.{ltb}
 use borrow.Author.Tests.{ltb-false, le-ltb}
-use lib.Ieee.{Float, nan, inf, fin, up, down, lt, neg, ofBits}
+use lib.Ieee.{Float, nan, inf, fin, up, down, isNan, lt, le, eq, neg, ofBits}
 use lib.Ieee.Fits.{down-pos}
-use Rattle.float.specs.Doubles.{absOf, maxOf, pi}
+use Rattle.float.specs.Doubles.{nought, absOf, maxOf, pi, isFinite}
+use Rattle.float.proofs.Ordered.{at-least}
+use Rattle.float.proofs.Signs.{below-nought, turned}
 
 -- a product that is not above 0 has no part of its first factor
 no-part : (a d : ℕ) → 0 < d → ltb 0 (a * d + a * d) ≡ false → a ≡ 0
@@ -31,3 +33,29 @@ beyond-pi (fin true m e) = go (ltb 0 (m * up e * down e + m * up e * down e)) re
     go : (b : Bool) → ltb 0 (m * up e * down e + m * up e * down e) ≡ b → lt pi (cond b (fin false m e) (fin true m e)) ≡ lt pi (fin false m e)
     go true k = refl
     go false k = sym (not-above _ (m * up e) _ (no-part (m * up e) (down e) (down-pos e) k))
+
+-- ---- a step and PI
+
+finite-pi : (isFinite pi ≡ true) × (isFinite (neg pi) ≡ true)
+unfolding neg ofBits
+finite-pi = (refl, refl)
+
+-- a step below 0 is at least -PI unless it is beyond PI in size, and one that is not below 0 is PI at most
+pub short-back : (x : Float) → lt x nought ≡ true → le (neg pi) x ≡ not (lt pi (absOf x))
+unfolding neg absOf lt le eq ofBits
+short-back nan h = absurd (false≢true h)
+short-back (inf true) h = refl
+short-back (inf false) h = absurd (false≢true h)
+short-back (fin true m e) h = at-least (neg pi) (fin true m e) (finite-pi .1) refl ∙ ap not (turned (fin false m e) pi)
+short-back (fin false m e) h = absurd (false≢true (sym (below-nought (fin false m e)) ∙ h))
+
+pub short-on : (x : Float) → isNan x ≡ false → lt x nought ≡ false → le x pi ≡ not (lt pi (absOf x))
+unfolding neg absOf lt le eq ofBits isNan
+short-on nan r h = absurd (true≢false r)
+short-on (inf true) r h = absurd (true≢false h)
+short-on (inf false) r h = refl
+short-on (fin false m e) r h = at-least (fin false m e) pi refl (finite-pi .0)
+short-on (fin true m e) r h = at-least (fin true m e) pi refl (finite-pi .0) ∙ ap not (sym (not-above _ (m * up e) _ (none m (up e) (ltb-false 0 m (sym (below-nought (fin true m e)) ∙ h)))))
+  where
+    none : (m u : ℕ) → m ≤ 0 → m * u ≡ 0
+    none m u k = let z : m ≡ 0 = omega (arith, k) in rw z (zero-mul u)

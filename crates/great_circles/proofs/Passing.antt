@@ -14,8 +14,9 @@ use Rattle.coo3d.specs.Vectors.{vectOfPoint, vectOfUnit, dotOf}
 use Rattle.crossings.specs.declared.Crossing.{Crossing}
 use Rattle.crossings.specs.declared.Crossing.the-variants.{None}
 use Rattle.float.specs.Doubles.{nought, absOf, maxOf}
+use Rattle.lists.specs.Counts.{exactlyOne}
 use Rattle.region.specs.Edges.{Edge}
-use Rattle.region.specs.View.{viewOf, nowhere, exactlyOne, edgesOf}
+use Rattle.region.specs.View.{viewOf, nowhere, edgesOf}
 use Rattle.region.proofs.Held.{held}
 use Rattle.region.proofs.Edges.{nothing, edgesLeft, start, turn, done}
 use Rattle.great_circles.specs.Arcs.{westOf, eastOf, overlapInLon, intersectPoint, inEdge, crossingOf, arcCrossing}

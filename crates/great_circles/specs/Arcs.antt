@@ -8,8 +8,8 @@ use Rattle.coo3d.specs.Vectors.{vectOfPoint, vectOfUnit, dotOf, normalizedOf}
 use Rattle.crossings.specs.declared.Crossing.{Crossing}
 use Rattle.crossings.specs.declared.Crossing.the-variants.{None, At}
 use Rattle.float.specs.Doubles.{_⊖_, _⊗_, nought, pi, absOf}
+use Rattle.lists.specs.Counts.{exactlyOne}
 use Rattle.region.specs.Edges.{Edge}
-use Rattle.region.specs.View.{exactlyOne}
 
 -- two points by longitude
 unfoldable pub westOf : Coo3D → Coo3D → Coo3D

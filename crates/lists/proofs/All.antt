@@ -1,8 +1,8 @@
--- Lists whose elements all have a property, and what an edit of the list keeps of it.
+-- Lists whose elements all have a property: what an edit of the list keeps of it, and that the last element has it.
 use Prim.Native.Nat.{ℕ, zero, suc}
 use mathlib.Core.List.{List, [], _∷_}
 use lib.ListN.{set}
-use Rattle.lists.specs.Cyclic.{ins, del}
+use Rattle.lists.specs.Cyclic.{lastOf, ins, del}
 
 pub data All {A : Type 0} (P : A → Type 0) : List A → Type 0 where
   none : All P []
@@ -25,3 +25,13 @@ module _ {A : Type 0} {P : A → Type 0} where
   all-del i none = none
   all-del zero (more k t) = t
   all-del (suc i) (more k t) = more k (all-del i t)
+
+  pub all-last : {l : List A} (d : A) → P d → All P l → P (lastOf d l)
+  unfolding lastOf
+  all-last d h none = h
+  all-last d h (more {a = a} k t) = all-last a k t
+
+-- two properties of each that give a third
+pub all-both : {A : Type 0} (P Q R : A → Type 0) → ((a : A) → P a → Q a → R a) → {l : List A} → All P l → All Q l → All R l
+all-both P Q R f none none = none
+all-both P Q R f (more {a = a} h t) (more k u) = more (f a h k) (all-both P Q R f t u)

@@ -7,12 +7,13 @@ use Rattle.domain.specs.Domain.{inDomain}
 use Rattle.domain.specs.Checks.{pointAt, pointsFrom, pointsOf}
 use Rattle.edits.specs.Edits.{checked, changed, editOf}
 use Rattle.float.specs.Doubles.{absOf}
+use Rattle.lists.specs.Counts.{oddMany}
 use Rattle.lists.specs.Cyclic.{lastOf, along, nextOf, putAlong}
 use Rattle.parallels.specs.Parallels.{isParallel, southOf, northOf, spansLat, straddles, eitherOf, caseB, pointOf, parallelCrossing}
 use Rattle.parallels.specs.Queries.{firstFit, parallelFirstOf, parallelAllOf}
 use Rattle.region.specs.declared.ContainsSouthPoleMethod.the-variants.{Default}
 use Rattle.region.specs.Edges.{northward, normalOf, inLonRange, isCounted}
-use Rattle.region.specs.View.{edgesFrom, edgesOf, oddMany, oddAt, contained, normalsOf}
+use Rattle.region.specs.View.{edgesFrom, edgesOf, oddAt, contained, normalsOf}
 use Rattle.region.specs.Poles.{stepOf, basicFrom, basicOf, ruleFlag}
 use Rattle.region.specs.Region.{containsOf, ruleAt, flagOf, buildOf}
 use Rattle.region_file.specs.Bytes.{bytesOf, cornerBytes, cornersBytes}

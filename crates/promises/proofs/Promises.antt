@@ -3,6 +3,7 @@ use Rattle.edit_theorem.proofs.Made.{edits-made}
 use Rattle.edit_theorem.proofs.Theorem.{edit-theorem}
 use Rattle.great_circles.proofs.Head.{first-is-head}
 use Rattle.marked_cases.proofs.Cases.{marked-cases}
+use Rattle.poles.proofs.Poles.{poles}
 use Rattle.region.proofs.Made.{build-made, seams-made}
 use Rattle.region_file.proofs.Made.{read-made}
 use Rattle.region_file.proofs.RoundTrips.{read-written, write-read}
@@ -22,5 +23,6 @@ promises =
       read-made = read-made;
       edits-made = edits-made;
       seams-made = seams-made;
+      poles = poles;
       marked-cases = marked-cases;
     }

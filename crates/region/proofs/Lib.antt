@@ -3,7 +3,7 @@ pub mod Edges
 pub mod Held
 pub mod Corners
 pub mod Seam
-pub mod Odd
+pub mod Drawn
 pub mod Rules
 pub mod Flags
 pub mod Answered

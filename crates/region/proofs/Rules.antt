@@ -9,11 +9,12 @@ use Rattle.domain.specs.Checks.{pointAt}
 use Rattle.domain.proofs.Counts.{count-few}
 use Rattle.domain.proofs.Handed.{handed-again}
 use Rattle.domain.proofs.Points.{point-refused}
+use Rattle.lists.specs.Counts.{exactlyOne}
 use Rattle.refusal.specs.Answer.{Answer, answered, refused, andThen}
 use Rattle.refusal.proofs.Answers.{never, same-answer}
 use Rattle.region.specs.declared.ContainsSouthPoleMethod.{ContainsSouthPoleMethod}
 use Rattle.region.specs.declared.ContainsSouthPoleMethod.the-variants.{Default, DefaultComplement, ContainsSouthPole, DoNotContainsSouthPole, ControlPointIn, ControlPointOut}
-use Rattle.region.specs.View.{View, exactlyOne, oddAt, contained}
+use Rattle.region.specs.View.{View, oddAt, contained}
 use Rattle.region.specs.Region.{containsOf, ruleAt}
 
 pub no-zero : {n : ℕ} → (n ≡ 0 → ⊥) → 0 < n

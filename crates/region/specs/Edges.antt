@@ -31,6 +31,10 @@ inRangeByStep step lon lon1 lon2 =
 unfoldable pub inLonRange : Float → Float → Float → Bool
 inLonRange lon lon1 lon2 = inRangeByStep (lon2 ⊖ lon1) lon lon1 lon2
 
+-- in range at the point
+abbrev pub isInRange : Coo3D → Edge → Bool
+isInRange p e = inLonRange (p .lon) (e .from .lon) (e .to .lon)
+
 -- in range at the point, and `dot_product` of point and normal exceeds 0
 unfoldable pub isCounted : Coo3D → Edge → Bool
-isCounted p e = inLonRange (p .lon) (e .from .lon) (e .to .lon) && lt nought (dotOf (vectOfPoint p) (e .normal))
+isCounted p e = isInRange p e && lt nought (dotOf (vectOfPoint p) (e .normal))

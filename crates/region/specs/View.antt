@@ -1,14 +1,15 @@
 -- What a region is to every call: its count, the corners and normals below it, the flag, and how many of its edges cross the seam.
 use Prim.Native.Nat.{ℕ, _+_}
-use mathlib.Core.Bool.{Bool, false, not, Bool·beq, cond}
+use mathlib.Core.Bool.{Bool, cond}
 use mathlib.Core.List.{List, [], _∷_}
 use lib.Ieee.{nan}
 use lib.ListN.{length, take}
 use Rattle.coo3d.specs.declared.Coo3D.{Coo3D}
 use Rattle.coo3d.specs.declared.Vect3.{Vect3}
+use Rattle.lists.specs.Counts.{exactlyOne, oddMany, howMany}
 use Rattle.lists.specs.Cyclic.{lastOf, along}
 use Rattle.region.specs.declared.Region.{Region}
-use Rattle.region.specs.Edges.{Edge, normalOf, crossesSeam, isCounted}
+use Rattle.region.specs.Edges.{Edge, normalOf, crossesSeam, isInRange, isCounted}
 
 -- the last corner; `nowhere` is read only where there is none
 abbrev pub nowhere : Coo3D
@@ -67,14 +68,9 @@ edgesFrom from (c ∷ cs) (n ∷ ns) = record { from = from; to = c; normal = n 
 unfoldable pub edgesOf : View → List Edge
 edgesOf v = edgesFrom (lastOf nowhere (v .corners)) (v .corners) (v .normals)
 
--- exactly one of the two holds
-abbrev pub exactlyOne : Bool → Bool → Bool
-exactlyOne a b = not (Bool·beq a b)
-
--- whether an odd number of the list has a property
-unfoldable pub oddMany : {A : Type 0} → (A → Bool) → List A → Bool
-oddMany has [] = false
-oddMany has (a ∷ rest) = exactlyOne (has a) (oddMany has rest)
+-- how many edges are in range at the point
+unfoldable pub inRangeCount : Coo3D → View → ℕ
+inRangeCount p v = howMany (isInRange p) (edgesOf v)
 
 -- an odd number of edges is counted at the point
 unfoldable pub oddAt : Coo3D → View → Bool

@@ -22,7 +22,7 @@ use region_file::TrailerAnswer;
 use region_file::WriteAnswer;
 use zone::ZoneAnswer;
 
-fn say(text: &[u8]) {
+pub fn say(text: &[u8]) {
     io::write_all(STDOUT_FILENO, text);
 }
 

@@ -15,15 +15,16 @@ use Rattle.float.specs.Doubles.{nought}
 use Rattle.domain.specs.Checks.{pointAnswer, pointAt}
 use Rattle.domain.proofs.Counts.{count-none, count-many, count-few}
 use Rattle.domain.proofs.Points.{point-refused}
+use Rattle.lists.specs.Counts.{exactlyOne, oddMany}
 use Rattle.refusal.specs.Answer.{answered, refused}
 use Rattle.region.specs.declared.Region.{Region}
 use Rattle.region.specs.Edges.{Edge, inLonRange, isCounted}
-use Rattle.region.specs.View.{View, viewOf, nowhere, exactlyOne, oddMany, oddAt, contained, edgesOf}
+use Rattle.region.specs.View.{View, viewOf, nowhere, oddAt, contained, edgesOf}
 use Rattle.region.specs.Region.{containsOf}
 use Rattle.region.proofs.Lengths.{unmap}
 use Rattle.region.proofs.Held.{held, heldOf}
 use Rattle.region.proofs.Edges.{edgesLeft, edgeAt, start, turn, done}
-use Rattle.region.proofs.Odd.{odd-turn, odd-done, one-false}
+use Rattle.lists.proofs.Odd.{odd-turn, odd-done, one-false}
 use Rattle.region.proofs.contains.Statement.{statement}
 use Rattle.region.proofs.contains.Tie as tie
 

@@ -1,0 +1,4 @@
+pub mod InRange
+pub mod Normals
+pub mod Edges
+pub mod Poles
