@@ -2,7 +2,7 @@
 use Prim.Native.Nat.{ℕ, zero, suc, _+_, _-_, _*_, _^_, _<_}
 use native.Mathlib.Nat.{le-refl, mul-pos, sub-self, zero-mul}
 use native.Mathlib.Omega.{arith}
-use mathlib.Core.Path.{_≡_, refl, sym, ap, _∙_}
+use mathlib.Core.Path.{_≡_, refl, sym, _∙_, subst}
 use mathlib.Core.Bool.{Bool, true, false, not, _&&_, Bool·beq, cond, false≢true}
 use borrow.Author.Tests.{le-ltb}
 use lib.Dec.{ltb}
@@ -43,30 +43,43 @@ less-itself (fin s m e) h = cancels s (m * up e * down e) (down e * down e) (mul
 
 -- ---- a difference of finite ones is no NaN
 
-units-real : (f : Format) (s : Bool) (q k : ℕ) → isNan (units f s q k) ≡ false
-unfolding units odd isNan
-units-real f s zero k = go (ltb (zero * 2 ^ k) (2 ^ (low f + suc (emax f))))
+-- a number or an infinity of that sign
+abbrev pub Signed : Bool → Float → Type 0
+Signed s nan = ⊥
+Signed s (inf t) = t ≡ s
+Signed s (fin t m e) = t ≡ s
+
+units-signed : (f : Format) (s : Bool) (q k : ℕ) → Signed s (units f s q k)
+unfolding units odd
+units-signed f s zero k = go (ltb (zero * 2 ^ k) (2 ^ (low f + suc (emax f))))
   where
-    go : (b : Bool) → isNan (cond b (fin s zero (pos zero)) (inf s)) ≡ false
+    go : (b : Bool) → Signed s (cond b (fin s zero (pos zero)) (inf s))
     go true = refl
     go false = refl
-units-real f s (suc q) k = go (ltb (suc q * 2 ^ k) (2 ^ (low f + suc (emax f))))
+units-signed f s (suc q) k = go (ltb (suc q * 2 ^ k) (2 ^ (low f + suc (emax f))))
   where
-    go : (b : Bool) → isNan (cond b (odd (suc (prec f)) s (suc q) k (low f)) (inf s)) ≡ false
+    go : (b : Bool) → Signed s (cond b (odd (suc (prec f)) s (suc q) k (low f)) (inf s))
     go true = refl
     go false = refl
 
-round-real : (f : Format) (s : Bool) (a c : ℕ) → isNan (round f s a c) ≡ false
-round-real f s a c = ap isNan (round-is f s a c) ∙ units-real f s _ _
+-- what is rounded keeps its sign
+pub round-signed : (f : Format) (s : Bool) (a c : ℕ) → Signed s (round f s a c)
+round-signed f s a c = subst (Signed s) (sym (round-is f s a c)) (units-signed f s _ _)
+
+signed-real : (s : Bool) (x : Float) → Signed s x → isNan x ≡ false
+unfolding isNan
+signed-real s nan h = absurd h
+signed-real s (inf t) h = refl
+signed-real s (fin t m e) h = refl
 
 sum-real : (f : Format) (s t : Bool) (a b c : ℕ) → isNan (sum f s a t b c) ≡ false
 unfolding sum
 sum-real f s t a b c = go (Bool·beq s t) (ltb a b)
   where
     go : (x y : Bool) → isNan (cond x (round f s (a + b) c) (cond y (round f t (b - a) c) (round f (s && ltb b a) (a - b) c))) ≡ false
-    go true y = round-real f s (a + b) c
-    go false true = round-real f t (b - a) c
-    go false false = round-real f (s && ltb b a) (a - b) c
+    go true y = signed-real s _ (round-signed f s (a + b) c)
+    go false true = signed-real t _ (round-signed f t (b - a) c)
+    go false false = signed-real (s && ltb b a) _ (round-signed f (s && ltb b a) (a - b) c)
 
 pub difference-real : (x y : Float) → isFinite x ≡ true → isFinite y ≡ true → isNan (x ⊖ y) ≡ false
 unfolding sub add neg

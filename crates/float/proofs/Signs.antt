@@ -15,7 +15,7 @@ use lib.Ieee.Fits.{down-pos, up-pos, round-is, and-l, and-r, neg-fits}
 use lib.Ieee.Order.{round-mono}
 use lib.Ieee.Positive.{positive, above, above-of-le, first-pos}
 use Rattle.float.specs.Doubles.{_⊕_, _⊖_, nought}
-use Rattle.float.proofs.Finite.{zero-over}
+use Rattle.float.proofs.Finite.{zero-over, Signed, round-signed}
 
 same-less : (a b c d : ℕ) → (a < b → c < d) → (c < d → a < b) → ltb a b ≡ ltb c d
 same-less a b c d f g = go (ltb a b) (ltb c d) refl refl
@@ -103,21 +103,15 @@ units-neg f s (suc q) k = go (ltb (suc q * 2 ^ k) (2 ^ (low f + suc (emax f))))
 pub round-neg : (f : Format) (s : Bool) (a c : ℕ) → neg (round f s a c) ≡ round f (not s) a c
 round-neg f s a c = ap neg (round-is f s a c) ∙ units-neg f s _ _ ∙ sym (round-is f (not s) a c)
 
-units-below : (f : Format) (q k : ℕ) → above (units f true q k) ≡ false
-unfolding units odd
-units-below f zero k = go (ltb (zero * 2 ^ k) (2 ^ (low f + suc (emax f))))
-  where
-    go : (b : Bool) → above (cond b (fin true zero (pos zero)) (inf true)) ≡ false
-    go true = refl
-    go false = refl
-units-below f (suc q) k = go (ltb (suc q * 2 ^ k) (2 ^ (low f + suc (emax f))))
-  where
-    go : (b : Bool) → above (cond b (odd (suc (prec f)) true (suc q) k (low f)) (inf true)) ≡ false
-    go true = refl
-    go false = refl
+signed-below : (x : Float) → Signed true x → above x ≡ false
+signed-below nan h = absurd h
+signed-below (inf true) h = refl
+signed-below (inf false) h = absurd (false≢true h)
+signed-below (fin true m e) h = refl
+signed-below (fin false m e) h = absurd (false≢true h)
 
 pub round-below : (f : Format) (a c : ℕ) → above (round f true a c) ≡ false
-round-below f a c = ap above (round-is f true a c) ∙ units-below f _ _
+round-below f a c = signed-below (round f true a c) (round-signed f true a c)
 
 smallest : (f : Format) → T (positive (round f false 1 (2 ^ low f)))
 unfolding round

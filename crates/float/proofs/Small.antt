@@ -5,11 +5,11 @@ use native.Mathlib.Omega.{arith}
 use mathlib.Core.Path.{_≡_, refl, sym, ap, _∙_, subst}
 use mathlib.Core.Bool.{Bool, true, false, not, _&&_, Bool·beq, cond, false≢true, true≢false}
 use borrow.Author.Tests.{ltb-false}
-use lib.Dec.{ltb}
+use lib.Dec.{T, ltb}
 use lib.IntN.{ℤ, pos}
 use lib.Ieee.{Float, nan, inf, fin, binary64, up, down, unlike, round, sum, add, sub, mul, neg, lt, le, eq, ofBits}
-use lib.Ieee.Bits.{is-true}
-use lib.Ieee.Fits.{down-pos}
+use lib.Ieee.Bits.{is-true, is-false}
+use lib.Ieee.Fits.{down-pos, and-l, and-r}
 use lib.Ieee.Order.{round-mono}
 use lib.Ieee.Positive.{above}
 use Rattle.float.specs.Doubles.{_⊖_, _⊗_, two, isFinite, inclusive}
@@ -33,14 +33,8 @@ within-neg k nan h = h
 within-neg k (inf s) h = h
 within-neg k (fin s m e) h = h
 
-and-both : (a b : Bool) → a && b ≡ true → (a ≡ true) × (b ≡ true)
-and-both true true h = (refl, refl)
-and-both true false h = (refl, h)
-and-both false b h = (h, absurd (false≢true h))
-
-not-true : (b : Bool) → not b ≡ true → b ≡ false
-not-true true h = sym h
-not-true false h = refl
+not-beyond : (x y : Float) → isFinite x ≡ true → isFinite y ≡ true → le x y ≡ true → lt y x ≡ false
+not-beyond x y p q h = is-false (lt y x) (subst T (sym (sym (at-least x y p q) ∙ h)) tt)
 
 up-to-two : (m : ℕ) (e : ℤ) → lt two (fin false m e) ≡ false → m * up e ≤ 2 * down e
 unfolding lt ofBits
@@ -59,9 +53,9 @@ within-two nan h = absurd (false≢true h)
 within-two (inf true) h = absurd (false≢true h)
 within-two (inf false) h = absurd (false≢true h)
 within-two (fin true m e) h =
-    up-to-two m e (sym (turned (fin false m e) two) ∙ not-true (lt (fin true m e) (neg two)) (sym (at-least (neg two) (fin true m e) (finite-two .1) refl) ∙ and-both (le (neg two) (fin true m e)) (le (fin true m e) two) h .0))
+    up-to-two m e (sym (turned (fin false m e) two) ∙ not-beyond (neg two) (fin true m e) (finite-two .1) refl (is-true _ (and-l (le (neg two) (fin true m e)) (le (fin true m e) two) (subst T (sym h) tt))))
 within-two (fin false m e) h =
-    up-to-two m e (not-true (lt two (fin false m e)) (sym (at-least (fin false m e) two refl (finite-two .0)) ∙ and-both (le (neg two) (fin false m e)) (le (fin false m e) two) h .1))
+    up-to-two m e (not-beyond (fin false m e) two refl (finite-two .0) (is-true _ (and-r (le (neg two) (fin false m e)) (le (fin false m e) two) (subst T (sym h) tt))))
 
 -- ---- what is rounded
 
@@ -87,7 +81,7 @@ no-more j (fin true m e) g h = let k = ltb-false 0 m g in none m (up e) (2 ^ j *
     none : (m u w : ℕ) → m ≤ 0 → m * u ≤ w
     none m u w k = le-trans (mul-le-mul-right u k) (omega arith)
 no-more j (fin false m e) g h =
-    least (m * up e) (2 ^ j) (down e) (ltb-false _ _ (not-true (lt (fin false 1 (pos j)) (fin false m e)) (sym (at-least (fin false m e) (fin false 1 (pos j)) refl refl) ∙ h)))
+    least (m * up e) (2 ^ j) (down e) (ltb-false _ _ (not-beyond (fin false m e) (fin false 1 (pos j)) refl refl h))
   where
     least : (a p d : ℕ) → a * 1 ≤ 1 * p * d → a ≤ p * d
     least a p d k = omega (arith, k)
