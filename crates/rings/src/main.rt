@@ -106,32 +106,29 @@ fn island_ring() -> [Coo3D; 64] {
     points
 }
 
-// 0, 80; 180, 80; 270, 80: the edge between the first two runs over the north pole.
-fn ring_over_the_pole() -> [Coo3D; 64] {
-    let c0 = at(
-        0.17364817766693036,
-        0.0,
-        0.984807753012208,
-        0.0,
-        1.3962634015954636,
-    );
-    let c1 = at(
-        -0.17364817766693036,
-        0.0,
-        0.984807753012208,
-        3.141592653589793,
-        1.3962634015954636,
-    );
-    let c2 = at(
-        0.0,
-        -0.17364817766693036,
-        0.984807753012208,
-        4.71238898038469,
-        1.3962634015954636,
-    );
-    let mut points = [c0; 64];
-    points[1] = c1;
-    points[2] = c2;
+// The half of the ring along 60 S that lies west of Greenwich: 0, 330 and so on to 180. The edge from 180 back to 0 runs over the south pole.
+fn western_half() -> [Coo3D; 64] {
+    let ring = south_ring();
+    let mut points = ring;
+    points[1] = ring[11];
+    points[2] = ring[10];
+    points[3] = ring[9];
+    points[4] = ring[8];
+    points[5] = ring[7];
+    points
+}
+
+// The same corners the other way round.
+fn western_half_back() -> [Coo3D; 64] {
+    let ring = south_ring();
+    let mut points = ring;
+    points[0] = ring[6];
+    points[1] = ring[7];
+    points[2] = ring[8];
+    points[3] = ring[9];
+    points[4] = ring[10];
+    points[5] = ring[11];
+    points[6] = ring[0];
     points
 }
 
@@ -318,12 +315,62 @@ fn corner_over_the_pole() {
     ask(b"  65 S      ", set_right, p);
 }
 
+// Both sides of the pole: 80 S in the half that is meant, and two places and the north pole in the other.
+fn halves(r: Region) {
+    // 255, -80; 90, -80; 90, -30
+    let west = at(
+        -0.04494345552754778,
+        -0.16773125949652062,
+        -0.984807753012208,
+        4.4505895925855405,
+        -1.3962634015954636,
+    );
+    let east = at(
+        0.0,
+        0.17364817766693036,
+        -0.984807753012208,
+        1.5707963267948966,
+        -1.3962634015954636,
+    );
+    let far_east = at(
+        0.0,
+        0.8660254037844386,
+        -0.5,
+        1.5707963267948966,
+        -0.5235987755982989,
+    );
+    ask(b"  south pole", r, south_pole(0.0));
+    ask(b"  80 S 105 W", r, west);
+    ask(b"  80 S  90 E", r, east);
+    ask(b"  30 S  90 E", r, far_east);
+    ask(
+        b"  north pole, asked at 105 W",
+        r,
+        north_pole(4.4505895925855405),
+    );
+    ask(
+        b"  north pole, asked at  90 E",
+        r,
+        north_pole(1.5707963267948966),
+    );
+}
+
 fn edge_over_the_pole() {
-    let r = by_default(b"an edge over the north pole", ring_over_the_pole(), 3);
-    ask(b"  north pole, at 90 E ", r, north_pole(1.5707963267948966));
-    ask(b"  north pole, at 135 W", r, north_pole(3.9269908169872414));
-    ask(b"  south pole, at 90 E ", r, south_pole(1.5707963267948966));
-    ask(b"  south pole, at 135 W", r, south_pole(3.9269908169872414));
+    // 90, -89
+    let corner = at(
+        0.0,
+        0.01745240643728351,
+        -0.9998476951563913,
+        1.5707963267948966,
+        -1.5533430342749532,
+    );
+    let r = by_default(b"the western half", western_half(), 7);
+    halves(r);
+    halves(by_default(b"the same corners back", western_half_back(), 7));
+    tell::call(b"the western half, a corner put in at 89 S 90 E");
+    let mended = edits::insert(r, 0, corner);
+    tell::edited(mended);
+    halves(mended.region);
 }
 
 fn main() {
