@@ -68,7 +68,7 @@
  * ring of 12 corners along 60 S reaches 60.85 S in the middle of its edges, 95 km further south. There 12 corners keep the
  * outline within 100 km of the parallel, 17 within 50 km, 37 within 10 km, 53 within 5 km; docs/CALLS.md has the table for
  * other latitudes. Between opposite meridians, half a turn of longitude apart, the outline's direction may decide which way
- * round an edge runs: put a corner in between.
+ * round an edge runs: put a corner in between. And let no corner be a pole: put it beside the pole.
  *
  * The outline itself is half-open: a fix exactly on an edge is answered as the fixes just south of it are, and on an edge
  * along a meridian as the fixes just east of it. So of two regions with an edge in common one has it, and not both.
@@ -78,7 +78,8 @@
  *         d ------- c      (north is up, east is right; how near 'exactly' is goes by the rounding of doubles)
  *
  * Which side is filmed is told by the file's flag: 1 is the side that has the south pole, 0 the other. With the flag 1 and the
- * outline above, inside and outside change places.
+ * outline above, inside and outside change places. To ask it, ask about the south pole: jigwandor_contains(file, len, 0, 0,
+ * -1, 0, 0). docs/POLES.md is for whoever plans: which side of a ring round a pole is filmed, and what to look at beforehand.
  *
  * Region file, edition 1, little-endian
  *

@@ -15,11 +15,11 @@ use Rattle.lists.specs.Counts.{exactlyOne, oddMany}
 use Rattle.lists.specs.Cyclic.{lastOf, ins, del, nextOf, beforeOf}
 use Rattle.lists.proofs.Cyclic.{same-or-not}
 use Rattle.lists.proofs.Odd.{odd}
-use Rattle.region.specs.Edges.{isCounted}
+use Rattle.region.specs.Edges.{edge, isCounted}
 use Rattle.region.specs.View.{nowhere, oddAt, contained, made}
 use Rattle.region.proofs.Drawn.{odd-drawn}
 use Rattle.edits.specs.Edits.{Edit, put, insert, remove}
-use Rattle.edit_theorem.specs.Record.{Plain, regionOf, edited, movesCorner, edge, touching, takenOut, broughtIn}
+use Rattle.edit_theorem.specs.Record.{Plain, regionOf, edited, movesCorner, touching, takenOut, broughtIn}
 use Rattle.edit_theorem.proofs.Legal.{Legal, legal-put, legal-insert, legal-remove, legal-turn, legal-hold, legal-rule}
 use Rattle.edit_theorem.proofs.Parity.{marks, cancel', last-at, next-other, parity-put, parity-alone, parity-ins, parity-del}
 

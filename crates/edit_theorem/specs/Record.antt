@@ -7,7 +7,7 @@ use lib.ListN.{length, getD, set}
 use Rattle.coo3d.specs.declared.Coo3D.{Coo3D}
 use Rattle.lists.specs.Cyclic.{ins, del, nextOf, beforeOf}
 use Rattle.refusal.specs.Answer.{Answer, answered, refused}
-use Rattle.region.specs.Edges.{Edge, normalOf}
+use Rattle.region.specs.Edges.{Edge, edge}
 use Rattle.region.specs.View.{View, made, nowhere, contained}
 use Rattle.region.specs.Poles.{ruleFlag, fixedRule}
 use Rattle.region.specs.Region.{buildOf}
@@ -51,9 +51,6 @@ movesCorner (remove i) = true
 movesCorner turn = false
 movesCorner (hold p) = false
 movesCorner (rule m) = false
-
-abbrev pub edge : Coo3D → Coo3D → Edge
-edge from to = record { from = from; to = to; normal = normalOf from to }
 
 -- the corner before index i, at it, and after it
 abbrev pub cornerBefore : List Coo3D → ℕ → Coo3D

@@ -13,9 +13,9 @@ use Rattle.lists.specs.Counts.{exactlyOne, oddMany, isOdd}
 use Rattle.lists.specs.Cyclic.{lastOf, along}
 use Rattle.lists.proofs.All.{All, none, more, all-both}
 use Rattle.lists.proofs.Odd.{odd, odd-same, odd-none, odd-both, odd-more, changes, closed-walk, one-false}
-use Rattle.region.specs.Edges.{Edge, normalOf, crossesSeam, isInRange, isCounted}
+use Rattle.region.specs.Edges.{Edge, normalOf, edge, crossesSeam, isInRange, isCounted}
 use Rattle.region.specs.View.{nowhere, seamsFrom, seamsOf, edgesOf, edgesFrom, made}
-use Rattle.region.proofs.Drawn.{drawn, odd-drawn, each-drawn}
+use Rattle.region.proofs.Drawn.{odd-drawn, each-drawn}
 use Rattle.poles.specs.Poles.{allNorth}
 use Rattle.poles.proofs.InRange.{in-range-is}
 use Rattle.poles.proofs.Normals.{Corner, Northern, northern}
@@ -40,7 +40,7 @@ module _ (q : Coo3D) (finite : isFinite (q .lon) ≡ true) where
   abbrev turns : Edge → Bool
   turns e = changes east (e .from) (e .to)
 
-  explained : (a b : Coo3D) → Corner a → Corner b → isInRange q (drawn a b) ≡ exactlyOne (steps (drawn a b)) (turns (drawn a b))
+  explained : (a b : Coo3D) → Corner a → Corner b → isInRange q (edge a b) ≡ exactlyOne (steps (edge a b)) (turns (edge a b))
   explained a b p r = in-range-is (q .lon) finite (a .lon) (b .lon) (p .lon) (r .lon) (p .held) (r .held)
 
   pub in-range-odd : {cs : List Coo3D} (flag : Bool) → All Corner cs → oddMany (isInRange q) (edgesOf (made cs flag)) ≡ isOdd (seamsOf cs)
@@ -63,12 +63,12 @@ module _ (q : Coo3D) (x : q .x ≡ nought) (y : q .y ≡ nought) where
 
   -- at the southern pole no edge is counted
   module _ (z : q .z ≡ neg one) where
-    never : (a b : Coo3D) → Corner a → Corner b → isCounted q (drawn a b) ≡ false
+    never : (a b : Coo3D) → Corner a → Corner b → isCounted q (edge a b) ≡ false
     unfolding isCounted
     never a b p r =
         let n = northern a b p r in
         let d : lt nought (dotOf (vectOfPoint q) (normalOf a b)) ≡ false = axis-dot (normalOf a b) n ∙ ap (λ (u : Float). lt nought (u ⊗ normalOf a b .z)) z ∙ once-back (normalOf a b .z) (n .held) ∙ n .north in
-        rw d (and-false (isInRange q (drawn a b)))
+        rw d (and-false (isInRange q (edge a b)))
 
     pub none-counted : {cs : List Coo3D} (flag : Bool) → All Corner cs → oddMany (isCounted q) (edgesOf (made cs flag)) ≡ false
     none-counted flag h = odd-none (isCounted q) (each-drawn Corner (λ e. isCounted q e ≡ false) never flag h)

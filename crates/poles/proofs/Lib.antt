@@ -2,3 +2,4 @@ pub mod InRange
 pub mod Normals
 pub mod Edges
 pub mod Poles
+pub mod Worked

@@ -7,23 +7,20 @@ use Rattle.lists.specs.Counts.{exactlyOne, oddMany}
 use Rattle.lists.specs.Cyclic.{lastOf, along}
 use Rattle.lists.proofs.All.{All, none, more, all-last}
 use Rattle.lists.proofs.Odd.{odd}
-use Rattle.region.specs.Edges.{Edge, normalOf}
+use Rattle.region.specs.Edges.{Edge, normalOf, edge}
 use Rattle.region.specs.View.{nowhere, edgesFrom, edgesOf, normalsOf, made}
 
-abbrev pub drawn : Coo3D → Coo3D → Edge
-drawn a b = record { from = a; to = b; normal = normalOf a b }
-
 module _ (has : Edge → Bool) where
-  odd-from : (from : Coo3D) (cs : List Coo3D) → oddMany has (edgesFrom from cs (along normalOf from cs)) ≡ odd (along (λ a b. has (drawn a b)) from cs)
+  odd-from : (from : Coo3D) (cs : List Coo3D) → oddMany has (edgesFrom from cs (along normalOf from cs)) ≡ odd (along (λ a b. has (edge a b)) from cs)
   unfolding oddMany edgesFrom along
   odd-from from [] = refl
-  odd-from from (c ∷ cs) = ap (exactlyOne (has (drawn from c))) (odd-from c cs)
+  odd-from from (c ∷ cs) = ap (exactlyOne (has (edge from c))) (odd-from c cs)
 
-  pub odd-drawn : (cs : List Coo3D) (flag : Bool) → oddMany has (edgesOf (made cs flag)) ≡ odd (along (λ a b. has (drawn a b)) (lastOf nowhere cs) cs)
+  pub odd-drawn : (cs : List Coo3D) (flag : Bool) → oddMany has (edgesOf (made cs flag)) ≡ odd (along (λ a b. has (edge a b)) (lastOf nowhere cs) cs)
   unfolding edgesOf normalsOf
   odd-drawn cs flag = odd-from (lastOf nowhere cs) cs
 
-module _ (Corner : Coo3D → Type 0) (Has : Edge → Type 0) (each : (a b : Coo3D) → Corner a → Corner b → Has (drawn a b)) where
+module _ (Corner : Coo3D → Type 0) (Has : Edge → Type 0) (each : (a b : Coo3D) → Corner a → Corner b → Has (edge a b)) where
   each-from : (from : Coo3D) {cs : List Coo3D} → Corner from → All Corner cs → All Has (edgesFrom from cs (along normalOf from cs))
   unfolding edgesFrom along
   each-from from h none = none

@@ -19,6 +19,10 @@ northward v = cond (lt (v .z) nought) (oppositeOf v) v
 unfoldable pub normalOf : Coo3D → Coo3D → Vect3
 normalOf from to = northward (crossOf (vectOfPoint from) (vectOfPoint to))
 
+-- the edge of two corners, with its normal
+abbrev pub edge : Coo3D → Coo3D → Edge
+edge from to = record { from = from; to = to; normal = normalOf from to }
+
 -- the absolute longitude step, rounded, exceeds PI: one of exactly PI does not cross the seam, nor does a NaN, which only a value handed in has
 unfoldable pub crossesSeam : Float → Float → Bool
 crossesSeam lon1 lon2 = lt pi (absOf (lon2 ⊖ lon1))
