@@ -1,6 +1,7 @@
 /*
  * demo FILE [FIXES]: a map of a region file in characters, drawn by asking jigwandor_contains cell by cell, and below it what
- * the call answers for fixes: lines 'longitude latitude name' of the file FIXES, in degrees.
+ * the call answers at the poles, how many edges cross the meridian 0, and the answers for fixes: lines 'longitude latitude
+ * name' of the file FIXES, in degrees.
  */
 #include "jigwandor.h"
 
@@ -8,7 +9,8 @@
 #include <stdio.h>
 #include <string.h>
 
-#define DEGREE (0x1.921fb54442d18p+1 / 180)
+#define PI 0x1.921fb54442d18p+1
+#define DEGREE (PI / 180)
 
 enum { COLUMNS = 72, ROWS = 26, MOST_FIXES = 26, TRAILER = 16, CORNER = 40 };
 
@@ -50,12 +52,17 @@ static uint32_t corner_count(void)
     return at[0] | (uint32_t)at[1] << 8 | (uint32_t)at[2] << 16 | (uint32_t)at[3] << 24;
 }
 
-/* A corner's longitude (field 3) or latitude (field 4), in degrees. This demo runs where doubles are little-endian. */
-static double corner(uint32_t i, int field)
+/* A corner's longitude (field 3) or latitude (field 4) as it is, and in degrees. This demo runs where doubles are little-endian. */
+static double radians(uint32_t i, int field)
 {
     double value;
     memcpy(&value, file + len - TRAILER - CORNER * (corner_count() - i) + 8 * field, sizeof value);
-    return value / DEGREE;
+    return value;
+}
+
+static double corner(uint32_t i, int field)
+{
+    return radians(i, field) / DEGREE;
 }
 
 static double east_of(double from, double lon)
@@ -143,6 +150,27 @@ static void print_map(void)
     printf("\n\n");
 }
 
+/* ---- the poles: docs/POLES.md says what to make of these */
+
+static uint32_t seam_count(void)
+{
+    uint32_t n = corner_count(), crossings = 0;
+    for (uint32_t i = 0; i < n; i++)
+        if (fabs(radians(i, 3) - radians(i > 0 ? i - 1 : n - 1, 3)) > PI)
+            crossings++;
+    return crossings;
+}
+
+static void print_poles(void)
+{
+    uint32_t crossings = seam_count();
+    printf("   south pole  ");
+    say_answer(jigwandor_contains(file, len, 0, 0, -1, 0, 0));
+    printf("\n   north pole  ");
+    say_answer(jigwandor_contains(file, len, 0, 0, 1, 0, 0));
+    printf("\n   seam count  %u, %s\n\n", (unsigned)crossings, crossings % 2 != 0 ? "odd: round a pole" : "even: round neither pole");
+}
+
 /* ---- fixes */
 
 static int read_fixes(const char *name, fix *fixes)
@@ -209,6 +237,7 @@ int main(int argc, char **argv)
         if (!JIGWANDOR_IS_REFUSAL(ask(file, fixes[i].lon, fixes[i].lat)) && cell_of(fixes[i].lon, fixes[i].lat, &column, &row))
             map[row][column] = (char)('A' + i);
     print_map();
+    print_poles();
     if (n > 0)
         print_table(fixes, n);
     return 0;

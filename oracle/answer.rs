@@ -88,9 +88,12 @@ fn try_poles(call: Call, request: &[u64], kept: &Kept, tried: &mut Tried) -> Res
             }
         }
         Call::DoorContains | Call::DoorHold => {
-            let (file, words) = bytes_and_rest(request);
+            let (mut file, words) = bytes_and_rest(request);
+            if matches!(call, Call::DoorHold) && region_file::hold(&mut file, words).is_err() {
+                return Ok(());
+            }
             if let (Ok(polygon), Ok(point)) = (region_file::read(&file), point(words, 0)) {
-                tried.at(&Region::made(polygon), &point)?;
+                tried.at(&Region::read(polygon), &point)?;
             }
         }
         _ => {}
@@ -101,7 +104,7 @@ fn try_poles(call: Call, request: &[u64], kept: &Kept, tried: &mut Tried) -> Res
 /// Adds what follows a status of 0; what it adds before it refuses does not count.
 fn answer_one(call: Call, request: &[u64], kept: &mut Kept, answer: &mut Vec<u64>) -> Answer<()> {
     match call {
-        Call::Build => kept.region = Ok(Region::made(build(request)?)),
+        Call::Build => kept.region = Ok(Region::built(build(request)?)),
         Call::Put => edited(kept)?.put(request[0], &request[1..])?,
         Call::Insert => edited(kept)?.insert(request[0], &request[1..])?,
         Call::Remove => edited(kept)?.remove(request[0])?,
@@ -163,7 +166,7 @@ fn answer_one(call: Call, request: &[u64], kept: &mut Kept, answer: &mut Vec<u64
         }
         Call::ReadFile => {
             let (file, _) = bytes_and_rest(request);
-            kept.region = Ok(Region::made(region_file::read(&file)?));
+            kept.region = Ok(Region::read(region_file::read(&file)?));
         }
         Call::DoorContains => {
             let (file, point) = bytes_and_rest(request);

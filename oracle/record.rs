@@ -23,16 +23,32 @@ pub struct Region {
 
 #[derive(Clone, Copy)]
 enum Origin {
-    Made,
+    Made(Way),
     HandedIn,
 }
 
+/// The way in which a region was made, the last one where there were several.
+#[derive(Clone, Copy)]
+pub enum Way {
+    Built,
+    Read,
+    Edited,
+}
+
 impl Region {
-    pub fn made(polygon: Polygon) -> Self {
+    pub fn built(polygon: Polygon) -> Self {
+        Self::made(polygon, Way::Built)
+    }
+
+    pub fn read(polygon: Polygon) -> Self {
+        Self::made(polygon, Way::Read)
+    }
+
+    fn made(polygon: Polygon, way: Way) -> Self {
         Region {
             seam_count: seam_count(&polygon),
             polygon,
-            origin: Origin::Made,
+            origin: Origin::Made(way),
         }
     }
 
@@ -44,8 +60,12 @@ impl Region {
         }
     }
 
-    pub fn is_made(&self) -> bool {
-        matches!(self.origin, Origin::Made)
+    /// None where it was handed in, whatever edits it went through since.
+    pub fn way(&self) -> Option<Way> {
+        match self.origin {
+            Origin::Made(way) => Some(way),
+            Origin::HandedIn => None,
+        }
     }
 
     fn count(&self) -> u64 {
@@ -130,7 +150,10 @@ impl Region {
     fn leave(&mut self, corners: Vec<Coo3D>, mut normals: Vec<Vect3>, edges: &[usize]) {
         let flag = self.polygon.contains_south_pole;
         self.polygon = match self.origin {
-            Origin::Made => afresh(corners, flag),
+            Origin::Made(_) => {
+                self.origin = Origin::Made(Way::Edited);
+                afresh(corners, flag)
+            }
             Origin::HandedIn => {
                 let count = corners.len();
                 for edge in edges {
@@ -159,12 +182,15 @@ pub fn afresh(corners: Vec<Coo3D>, flag: bool) -> Polygon {
 
 /// How many edges have an absolute longitude step above PI.
 fn seam_count(polygon: &Polygon) -> u64 {
-    let ends = &polygon.vertices;
-    let starts = ends.iter().cycle().skip(ends.len() - 1);
-    let steps = starts
-        .zip(ends)
-        .map(|(start, end)| (end.lon - start.lon).abs());
+    let steps = ends(polygon).map(|(start, end)| (end.lon - start.lon).abs());
     steps.filter(|&step| step > PI).count() as u64
+}
+
+/// Each edge's start and end.
+pub fn ends(polygon: &Polygon) -> impl Iterator<Item = (&Coo3D, &Coo3D)> {
+    let corners = &polygon.vertices;
+    let starts = corners.iter().cycle().skip(corners.len() - 1);
+    starts.zip(corners.iter())
 }
 
 /// An index below this count.

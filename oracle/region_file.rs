@@ -56,7 +56,7 @@ pub fn contains(file: &[u8], words: &[u64]) -> Answer<u64> {
 
 /// Sets the flag field alone, and only where it is not refused.
 pub fn hold(file: &mut [u8], words: &[u64]) -> Answer<u64> {
-    let mut region = Region::made(read(file)?);
+    let mut region = Region::read(read(file)?);
     region.hold(words)?;
     let flag = u32::from(region.polygon.contains_south_pole);
     let (begin, end) = FLAG_FROM_END;

@@ -61,6 +61,8 @@ static const char *outline_itself(uint32_t flag)
     make(picture, 4, flag);
     if (ask(1, 0, 0, 1.5, 0) != in)
         return "the middle";
+    if (ask(0, 0, -1, 0, 0) != flag)
+        return "the south pole";
     if (ask(1, 0, 0.5, 1.5, 0.4) != in || ask(1, 0, 0.5001, 1.5, 0.4) != out)
         return "the edge a-b";
     if (ask(1, 0, -0.5, 1.5, -0.4) != out || ask(1, 0, -0.4999, 1.5, -0.4) != in)

@@ -10,18 +10,13 @@ use lib.Seq.{take-length}
 use Rattle.float.specs.Doubles.{isFinite, inclusive, nought, two, halfPi, twoPi}
 use Rattle.coo3d.specs.declared.Coo3D.{Coo3D}
 use Rattle.coo3d.specs.Points.{ofDoubles, areDoubles}
-use Rattle.lists.proofs.All.{All, none, more}
+use Rattle.lists.proofs.All.{All, none, more, both}
 use Rattle.refusal.specs.Answer.{Answer, answered, refused, andThen}
 use Rattle.refusal.proofs.Answers.{never, same-answer}
 use Rattle.domain.specs.Domain.{inDomain}
 use Rattle.domain.specs.Checks.{pointAt, pointsFrom, pointsOf}
 use Rattle.domain.proofs.Counts.{count-few, count-passed}
 use Rattle.domain.proofs.Handed.{Settled, handed-same, handed-in, handed-again, handed-doubles}
-
-pub both : (a b : Bool) → (a && b) ≡ true → (a ≡ true) × (b ≡ true)
-both true true h = (refl, refl)
-both true false h = (refl, h)
-both false b h = (h, absurd (false≢true h))
 
 -- the check hands each of them back as it is
 abbrev pub Inside : List Coo3D → Type 0

@@ -5,8 +5,8 @@ use mathlib.Core.List.{List}
 use lib.ListN.{length}
 use Rattle.coo3d.specs.Points.{areDoubles}
 use Rattle.domain.proofs.Handed.{handed-doubles}
-use Rattle.domain.proofs.Inside.{both, each-double, all-doubles}
-use Rattle.lists.proofs.All.{all-set, all-ins, all-del}
+use Rattle.domain.proofs.Inside.{each-double, all-doubles}
+use Rattle.lists.proofs.All.{all-set, all-ins, all-del, both}
 use Rattle.refusal.specs.Answer.{Answer, answered, refused}
 use Rattle.region.specs.declared.Region.{Region}
 use Rattle.region.specs.View.{View, viewOf}

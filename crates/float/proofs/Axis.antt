@@ -1,28 +1,25 @@
 -- Products with 0, 1 and -1 in sums of three: what is left of a vector on the axis is the sign of z.
-use Prim.Native.Nat.{ℕ, _+_, _*_, _≤_, _<_}
-use native.Mathlib.Nat.{one-mul, zero-mul, mul-one}
-use native.Mathlib.Omega.{arith}
+use Prim.Native.Nat.{ℕ, _*_, _<_}
+use native.Mathlib.Nat.{one-mul, zero-mul}
 use mathlib.Core.Path.{_≡_, refl, sym, ap, _∙_, subst}
-use mathlib.Core.Bool.{Bool, true, false, false≢true}
-use borrow.Author.Tests.{le-ltb}
+use mathlib.Core.Bool.{Bool, true, false, not, false≢true}
 use lib.Dec.{T, ltb}
 use lib.IntN.{ℤ, pos}
 use lib.Ieee.{Float, nan, inf, fin, binary64, up, down, unlike, round, add, mul, neg, lt, fits, ofBits}
-use lib.Ieee.Fits.{up-pos, down-pos, add-fits, mul-fits}
+use lib.Ieee.Fits.{down-pos, add-fits, mul-fits}
 use lib.Ieee.Positive.{above}
 use Rattle.float.specs.Doubles.{_⊕_, _⊗_, nought, one, isFinite}
-use Rattle.float.proofs.Finite.{zero-over}
-use Rattle.float.proofs.Signs.{above-nought, below-nought, some-of, sum-above, held-above, round-below}
+use Rattle.float.proofs.Finite.{Zero, zero-over}
+use Rattle.float.proofs.Signs.{above-zero, above-nought, below-nought, sum-above, held-above, round-below}
 
--- either zero
-abbrev Zero : Float → Type 0
-Zero x = (s : Bool) × (x ≡ fin s 0 (pos 0))
+zero-by : (t : Bool) (x : Float) → isFinite x ≡ true → Zero (fin t 0 (pos 0) ⊗ x)
+unfolding mul
+zero-by t nan h = absurd (false≢true h)
+zero-by t (inf s) h = absurd (false≢true h)
+zero-by t (fin s m e) h = (unlike t s, rw (zero-mul (m * up e)) (zero-over binary64 (unlike t s) (1 * down e) (subst (λ (n : ℕ). 0 < n) (sym (one-mul (down e))) (down-pos e))))
 
-zero-times : (x : Float) → isFinite x ≡ true → Zero (nought ⊗ x)
-unfolding mul ofBits
-zero-times nan h = absurd (false≢true h)
-zero-times (inf s) h = absurd (false≢true h)
-zero-times (fin s m e) h = (unlike false s, rw (zero-mul (m * up e)) (zero-over binary64 (unlike false s) (1 * down e) (subst (λ (n : ℕ). 0 < n) (sym (one-mul (down e))) (down-pos e))))
+zero-times : (a x : Float) → Zero a → isFinite x ≡ true → Zero (a ⊗ x)
+zero-times a x (t, z) h = rw z (zero-by t x h)
 
 zeros-added : (s t : Bool) → Zero (fin s 0 (pos 0) ⊕ fin t 0 (pos 0))
 unfolding add
@@ -34,30 +31,16 @@ zeros-added false false = (false, refl)
 zero-plus : (x y : Float) → Zero x → Zero y → Zero (x ⊕ y)
 zero-plus x y (s, p) (t, q) = rw (p, q) (zeros-added s t)
 
-zero-least : (s : Bool) (y : Float) → lt (neg (fin s 0 (pos 0))) y ≡ above y
-unfolding neg lt
-zero-least s nan = refl
-zero-least s (inf t) = refl
-zero-least true (fin true n d) = refl
-zero-least true (fin false n d) = rw (zero-mul (down d), mul-one (n * up d)) (some-of n (up d) (up-pos d))
-zero-least false (fin true n d) = le-ltb (n * up d * 1) (0 * down d) (least (n * up d) (down d))
-  where
-    least : (a c : ℕ) → 0 * c ≤ a * 1
-    least a c = omega arith
-zero-least false (fin false n d) = ap (ltb 0) (all (n * up d) (down d)) ∙ some-of n (up d) (up-pos d)
-  where
-    all : (a c : ℕ) → 0 * c + a * 1 ≡ a
-    all a c = omega arith
-
 -- a sum that begins with a zero is above 0 exactly when what is added to it is
 beyond-zero : (x y : Float) → Zero x → lt (neg x) y ≡ lt nought y
-beyond-zero x y (s, p) = ap (λ (z : Float). lt (neg z) y) p ∙ zero-least s y ∙ sym (above-nought y)
+unfolding neg
+beyond-zero x y (s, p) = ap (λ (z : Float). lt (neg z) y) p ∙ above-zero (not s) y ∙ sym (above-nought y)
 
-module _ (x y u z : Float) (p : isFinite x ≡ true) (q : isFinite y ≡ true) where
-  pub on-axis : lt nought (nought ⊗ x ⊕ nought ⊗ y ⊕ u ⊗ z) ≡ lt nought (u ⊗ z)
+module _ (a b x y u z : Float) (o : Zero a) (w : Zero b) (p : isFinite x ≡ true) (q : isFinite y ≡ true) where
+  pub on-axis : lt nought (a ⊗ x ⊕ b ⊗ y ⊕ u ⊗ z) ≡ lt nought (u ⊗ z)
   on-axis =
-      sum-above (nought ⊗ x ⊕ nought ⊗ y) (u ⊗ z) (add-fits binary64 (nought ⊗ x) (nought ⊗ y)) (mul-fits binary64 u z)
-      ∙ beyond-zero (nought ⊗ x ⊕ nought ⊗ y) (u ⊗ z) (zero-plus (nought ⊗ x) (nought ⊗ y) (zero-times x p) (zero-times y q))
+      sum-above (a ⊗ x ⊕ b ⊗ y) (u ⊗ z) (add-fits binary64 (a ⊗ x) (b ⊗ y)) (mul-fits binary64 u z)
+      ∙ beyond-zero (a ⊗ x ⊕ b ⊗ y) (u ⊗ z) (zero-plus (a ⊗ x) (b ⊗ y) (zero-times a x o p) (zero-times b y w q))
 
 -- ---- by 1 and by -1
 

@@ -1,14 +1,15 @@
--- What lies between two finite doubles is finite, a finite one less itself is +0, and less another no NaN.
+-- What lies between two finite doubles is finite, a finite one less itself is +0, less an equal one a zero, and less another no NaN.
 use Prim.Native.Nat.{ℕ, zero, suc, _+_, _-_, _*_, _^_, _<_}
 use native.Mathlib.Nat.{le-refl, mul-pos, sub-self, zero-mul}
 use native.Mathlib.Omega.{arith}
 use mathlib.Core.Path.{_≡_, refl, sym, _∙_, subst}
-use mathlib.Core.Bool.{Bool, true, false, not, _&&_, Bool·beq, cond, false≢true}
-use borrow.Author.Tests.{le-ltb}
-use lib.Dec.{ltb}
+use mathlib.Core.Bool.{Bool, true, false, not, _&&_, _||_, Bool·beq, cond, false≢true}
+use borrow.Author.Tests.{le-ltb, eqb-true}
+use lib.Dec.{T, ltb, eqb}
 use lib.IntN.{ℤ, pos}
-use lib.Ieee.{Float, nan, inf, fin, Format, binary32, binary64, prec, emax, low, up, down, isNan, odd, units, round, sum, add, sub, neg, lt, eq, le, ofBits}
-use lib.Ieee.Fits.{down-pos, round-is}
+use lib.Ieee.{Float, nan, inf, fin, Format, binary32, binary64, prec, emax, low, up, down, isNan, odd, units, round, sum, add, sub, neg, level, lt, eq, le, ofBits}
+use lib.Ieee.Bits.{is-true}
+use lib.Ieee.Fits.{down-pos, round-is, and-l, and-r}
 use lib.Ieee.Scale.{round-same}
 use Rattle.float.specs.Doubles.{_⊖_, nought, isFinite, inclusive}
 
@@ -40,6 +41,32 @@ unfolding sub add neg
 less-itself nan h = absurd (false≢true h)
 less-itself (inf s) h = absurd (false≢true h)
 less-itself (fin s m e) h = cancels s (m * up e * down e) (down e * down e) (mul-pos (down-pos e) (down-pos e))
+
+-- either zero
+abbrev pub Zero : Float → Type 0
+Zero x = (s : Bool) × (x ≡ fin s 0 (pos 0))
+
+level-cancels : (s t : Bool) (a b c : ℕ) → 0 < c → level s a t b ≡ true → Zero (sum binary64 t b (not s) a c)
+unfolding sum ofBits
+level-cancels s t a b c h e =
+    let same = eqb a b in
+    let like = Bool·beq s t || eqb a 0 in
+    let k : T (same && like) = subst T (sym e) tt in
+    go s t (eqb-true a b (is-true same (and-l same like k))) (is-true like (and-r same like k))
+  where
+    go : (s t : Bool) → a ≡ b → Bool·beq s t || eqb a 0 ≡ true → Zero (sum binary64 t b (not s) a c)
+    go true true e z = (false, rw e (cancels true b c h))
+    go false false e z = (false, rw e (cancels false b c h))
+    go true false e z = (false, rw (sym e, eqb-true a 0 z) (zero-over binary64 false c h))
+    go false true e z = (true, rw (sym e, eqb-true a 0 z) (zero-over binary64 true c h))
+
+pub level-less : (x y : Float) → isFinite x ≡ true → isFinite y ≡ true → eq x y ≡ true → Zero (y ⊖ x)
+unfolding sub add neg eq
+level-less nan y p q h = absurd (false≢true p)
+level-less (inf s) y p q h = absurd (false≢true p)
+level-less (fin s m e) nan p q h = absurd (false≢true q)
+level-less (fin s m e) (inf t) p q h = absurd (false≢true q)
+level-less (fin s m e) (fin t n d) p q h = level-cancels s t (m * up e * down d) (n * up d * down e) (down d * down e) (mul-pos (down-pos d) (down-pos e)) h
 
 -- ---- a difference of finite ones is no NaN
 

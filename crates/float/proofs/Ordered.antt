@@ -1,13 +1,14 @@
 -- Finite values stand in one order: of two, one is below the other or at least it, and what is below the lower is below the higher.
 use Prim.Native.Nat.{ℕ, _+_, _*_, _≤_, _<_}
-use native.Mathlib.Nat.{add-comm, add-zero, zero-add, zero-mul, mul-lt-mul-of-pos-right, mul-le-mul-right, lt-of-mul-lt-mul-right}
+use native.Mathlib.Nat.{le-of-eq, add-comm, add-zero, zero-add, zero-mul, mul-lt-mul-of-pos-right, mul-le-mul-right, lt-of-mul-lt-mul-right}
 use native.Mathlib.Omega.{arith}
-use mathlib.Core.Path.{_≡_, refl, sym, ap, _∙_}
-use mathlib.Core.Bool.{Bool, true, false, not, _&&_, _||_, cond, false≢true}
+use mathlib.Core.Path.{_≡_, refl, sym, ap, _∙_, subst}
+use mathlib.Core.Bool.{Bool, true, false, not, _&&_, _||_, cond, or-true, false≢true}
 use borrow.Author.Tests.{ltb-true, ltb-false, lt-ltb, le-ltb, eqb-true, eqb-false, eq-eqb}
-use lib.Dec.{ltb, eqb}
+use lib.Dec.{T, ltb, eqb}
 use lib.Ieee.{Float, nan, inf, fin, up, down, below, level, lt, le, eq}
-use lib.Ieee.Fits.{down-pos}
+use lib.Ieee.Bits.{is-true, is-false}
+use lib.Ieee.Fits.{down-pos, and-l}
 use Rattle.float.specs.Doubles.{isFinite}
 
 -- ---- by sizes with a sign
@@ -106,3 +107,37 @@ one-way x y p q h = neither (lt y x) (eq y x) (at-least y x q p ∙ ap not h)
     neither : (a b : Bool) → a || b ≡ false → a ≡ false
     neither true b h = h
     neither false b h = refl
+
+pub not-beyond : (x y : Float) → isFinite x ≡ true → isFinite y ≡ true → le x y ≡ true → lt y x ≡ false
+not-beyond x y p q h = is-false (lt y x) (subst T (sym (sym (at-least x y p q) ∙ h)) tt)
+
+-- ---- level
+
+level-low : (s t : Bool) (a b : ℕ) → level s a t b ≡ true → below s a t b ≡ false
+level-low s t a b h = go s t h
+  where
+    same : (like : Bool) → eqb a b && like ≡ true → a ≡ b
+    same like k = eqb-true a b (is-true (eqb a b) (and-l (eqb a b) like (subst T (sym k) tt)))
+
+    go : (s t : Bool) → level s a t b ≡ true → below s a t b ≡ false
+    go false false k = le-ltb a b (le-of-eq (sym (same true k)))
+    go false true k = refl
+    go true true k = le-ltb b a (le-of-eq (same true k))
+    go true false k = is-false (ltb 0 (a + b)) (subst T (sym (sym (both-none a b) ∙ k)) tt)
+
+-- of two that are level neither is below the other
+pub level-neither : (x y : Float) → isFinite x ≡ true → isFinite y ≡ true → eq x y ≡ true → (lt x y ≡ false) × (lt y x ≡ false)
+unfolding lt le eq
+level-neither nan y p q h = absurd (false≢true p)
+level-neither (inf s) y p q h = absurd (false≢true p)
+level-neither (fin s m e) nan p q h = absurd (false≢true q)
+level-neither (fin s m e) (inf t) p q h = absurd (false≢true q)
+level-neither (fin s m e) (fin t n d) p q h =
+    (level-low s t (m * up e * down d) (n * up d * down e) h, not-beyond (fin s m e) (fin t n d) refl refl (rw h (or-true (lt (fin s m e) (fin t n d)))))
+
+pub level-itself : (x : Float) → isFinite x ≡ true → eq x x ≡ true
+unfolding eq
+level-itself nan h = absurd (false≢true h)
+level-itself (inf s) h = absurd (false≢true h)
+level-itself (fin true m e) h = rw (eq-eqb (m * up e * down e) (m * up e * down e) refl)
+level-itself (fin false m e) h = rw (eq-eqb (m * up e * down e) (m * up e * down e) refl)

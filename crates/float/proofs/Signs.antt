@@ -31,26 +31,52 @@ same-less a b c d f g = go (ltb a b) (ltb c d) refl refl
 pub some-of : (m u : ℕ) → 0 < u → ltb 0 (m * u) ≡ ltb 0 m
 some-of m u h = same-less 0 (m * u) 0 m (λ (k : 0 < m * u). first-pos m u k) (λ (k : 0 < m). mul-pos k h)
 
-pub above-nought : (x : Float) → lt nought x ≡ above x
-unfolding lt ofBits
-above-nought nan = refl
-above-nought (inf s) = refl
-above-nought (fin true m e) = refl
-above-nought (fin false m e) = rw (zero-mul (down e), mul-one (m * up e)) (some-of m (up e) (up-pos e))
-
-pub below-nought : (x : Float) → lt x nought ≡ above (neg x)
-unfolding lt neg ofBits
-below-nought nan = refl
-below-nought (inf true) = refl
-below-nought (inf false) = refl
-below-nought (fin true m e) = ap (ltb 0) (whole (m * up e) (down e)) ∙ some-of m (up e) (up-pos e)
+pub turned : (x y : Float) → lt (neg x) (neg y) ≡ lt y x
+unfolding neg lt
+turned nan nan = refl
+turned nan (inf t) = refl
+turned nan (fin t n d) = refl
+turned (inf s) nan = refl
+turned (inf true) (inf true) = refl
+turned (inf true) (inf false) = refl
+turned (inf false) (inf true) = refl
+turned (inf false) (inf false) = refl
+turned (inf true) (fin t n d) = refl
+turned (inf false) (fin t n d) = refl
+turned (fin s m e) nan = refl
+turned (fin s m e) (inf true) = refl
+turned (fin s m e) (inf false) = refl
+turned (fin s m e) (fin t n d) = go s t (m * up e * down d) (n * up d * down e)
   where
-    whole : (a d : ℕ) → a * 1 + 0 * d ≡ a
-    whole a d = omega arith
-below-nought (fin false m e) = le-ltb (m * up e * 1) (0 * down e) (least (m * up e) (down e))
+    go : (s t : Bool) (a b : ℕ) → below (not s) a (not t) b ≡ below t b s a
+    go true true a b = refl
+    go true false a b = refl
+    go false true a b = ap (ltb 0) (add-comm a b)
+    go false false a b = refl
+
+-- beyond either zero
+pub above-zero : (s : Bool) (x : Float) → lt (fin s 0 (pos 0)) x ≡ above x
+unfolding lt
+above-zero s nan = refl
+above-zero s (inf t) = refl
+above-zero false (fin true m e) = refl
+above-zero false (fin false m e) = rw (zero-mul (down e), mul-one (m * up e)) (some-of m (up e) (up-pos e))
+above-zero true (fin true m e) = le-ltb (m * up e * 1) (0 * down e) (least (m * up e) (down e))
   where
     least : (a d : ℕ) → 0 * d ≤ a * 1
     least a d = omega arith
+above-zero true (fin false m e) = ap (ltb 0) (whole (m * up e) (down e)) ∙ some-of m (up e) (up-pos e)
+  where
+    whole : (a d : ℕ) → 0 * d + a * 1 ≡ a
+    whole a d = omega arith
+
+pub above-nought : (x : Float) → lt nought x ≡ above x
+unfolding ofBits
+above-nought x = above-zero false x
+
+pub below-nought : (x : Float) → lt x nought ≡ above (neg x)
+unfolding neg ofBits
+below-nought x = sym (turned nought x) ∙ above-zero true (neg x)
 
 -- the opposite of what is below 0 is not
 pub not-below : (x : Float) → lt x nought ≡ true → lt (neg x) nought ≡ false
@@ -206,29 +232,6 @@ sum-sides (fin s m e) (fin t n d) p q =
     let b = whole binary64 t n d q in
     let l = 2 ^ low binary64 in
     sum-signs binary64 (m * up e * down d) (n * up d * down e) (down e * down d) (a .0) (b .0) (mul-pos (down-pos e) (down-pos d)) (scales (m * up e) (down e) (down d) (a .0) l (a .1)) (scales (n * up d) (down d) (down e) (b .0) l (b .1) ∙ ap (λ (z : ℕ). b .0 * z) (mul-comm (down d) (down e))) s t
-
-pub turned : (x y : Float) → lt (neg x) (neg y) ≡ lt y x
-unfolding neg lt
-turned nan nan = refl
-turned nan (inf t) = refl
-turned nan (fin t n d) = refl
-turned (inf s) nan = refl
-turned (inf true) (inf true) = refl
-turned (inf true) (inf false) = refl
-turned (inf false) (inf true) = refl
-turned (inf false) (inf false) = refl
-turned (inf true) (fin t n d) = refl
-turned (inf false) (fin t n d) = refl
-turned (fin s m e) nan = refl
-turned (fin s m e) (inf true) = refl
-turned (fin s m e) (inf false) = refl
-turned (fin s m e) (fin t n d) = go s t (m * up e * down d) (n * up d * down e)
-  where
-    go : (s t : Bool) (a b : ℕ) → below (not s) a (not t) b ≡ below t b s a
-    go true true a b = refl
-    go true false a b = refl
-    go false true a b = ap (ltb 0) (add-comm a b)
-    go false false a b = refl
 
 module _ (x y : Float) (p : T (fits binary64 x)) (q : T (fits binary64 y)) where
   pub sum-above : lt nought (x ⊕ y) ≡ lt (neg x) y

@@ -13,7 +13,7 @@ use lib.Ieee.Fits.{down-pos, and-l, and-r}
 use lib.Ieee.Order.{round-mono}
 use lib.Ieee.Positive.{above}
 use Rattle.float.specs.Doubles.{_⊖_, _⊗_, two, isFinite, inclusive}
-use Rattle.float.proofs.Ordered.{at-least}
+use Rattle.float.proofs.Ordered.{not-beyond}
 use Rattle.float.proofs.Signs.{round-neg, round-turned, turned}
 
 -- finite, and at most k in size
@@ -32,9 +32,6 @@ unfolding neg
 within-neg k nan h = h
 within-neg k (inf s) h = h
 within-neg k (fin s m e) h = h
-
-not-beyond : (x y : Float) → isFinite x ≡ true → isFinite y ≡ true → le x y ≡ true → lt y x ≡ false
-not-beyond x y p q h = is-false (lt y x) (subst T (sym (sym (at-least x y p q) ∙ h)) tt)
 
 up-to-two : (m : ℕ) (e : ℤ) → lt two (fin false m e) ≡ false → m * up e ≤ 2 * down e
 unfolding lt ofBits

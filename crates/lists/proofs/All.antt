@@ -1,7 +1,10 @@
 -- Lists whose elements all have a property: what an edit of the list keeps of it, and that the last element has it.
 use Prim.Native.Nat.{ℕ, zero, suc}
+use mathlib.Core.Path.{_≡_, refl}
+use mathlib.Core.Bool.{Bool, true, false, _&&_, false≢true}
 use mathlib.Core.List.{List, [], _∷_}
 use lib.ListN.{set}
+use Rattle.lists.specs.Counts.{every}
 use Rattle.lists.specs.Cyclic.{lastOf, ins, del}
 
 pub data All {A : Type 0} (P : A → Type 0) : List A → Type 0 where
@@ -35,3 +38,15 @@ module _ {A : Type 0} {P : A → Type 0} where
 pub all-both : {A : Type 0} (P Q R : A → Type 0) → ((a : A) → P a → Q a → R a) → {l : List A} → All P l → All Q l → All R l
 all-both P Q R f none none = none
 all-both P Q R f (more {a = a} h t) (more k u) = more (f a h k) (all-both P Q R f t u)
+
+-- ---- by tests
+
+pub both : (a b : Bool) → (a && b) ≡ true → (a ≡ true) × (b ≡ true)
+both true true h = (refl, refl)
+both true false h = (refl, h)
+both false b h = (h, absurd (false≢true h))
+
+pub every-each : {A : Type 0} (has : A → Bool) (l : List A) → every has l ≡ true → All (λ a. has a ≡ true) l
+unfolding every
+every-each has [] h = none
+every-each has (a ∷ l) h = let b = both (has a) (every has l) h in more (b .0) (every-each has l (b .1))

@@ -1,6 +1,6 @@
--- Counting: how many elements of a list have a property, and whether that is an odd number.
+-- Counting: how many elements of a list have a property, whether that is an odd number, and whether it is all of them.
 use Prim.Native.Nat.{ℕ, _+_, _%_}
-use mathlib.Core.Bool.{Bool, false, not, Bool·beq, cond}
+use mathlib.Core.Bool.{Bool, true, false, not, _&&_, Bool·beq, cond}
 use mathlib.Core.List.{List, [], _∷_}
 use lib.Dec.{eqb}
 
@@ -20,3 +20,8 @@ howMany has (a ∷ rest) = cond (has a) 1 0 + howMany has rest
 
 abbrev pub isOdd : ℕ → Bool
 isOdd n = eqb (n % 2) 1
+
+-- each of the list has it
+unfoldable pub every : {A : Type 0} → (A → Bool) → List A → Bool
+every has [] = true
+every has (a ∷ rest) = has a && every has rest

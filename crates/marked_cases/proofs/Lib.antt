@@ -1,3 +1,2 @@
-pub mod EqualLongitudes
 pub mod OneCorner
 pub mod Cases

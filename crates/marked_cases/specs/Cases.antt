@@ -13,7 +13,7 @@ use Rattle.float.specs.Doubles.{nought, half, one, pi}
 use Rattle.parallels.specs.Queries.{parallelFirstOf, parallelAllOf}
 use Rattle.refusal.specs.Answer.{Answer, answered, andThen}
 use Rattle.region.specs.declared.ContainsSouthPoleMethod.the-variants.{Default, ContainsSouthPole}
-use Rattle.region.specs.Edges.{Edge, inLonRange, isCounted}
+use Rattle.region.specs.Edges.{Edge, inLonRange, isInRange, isCounted}
 use Rattle.region.specs.View.{View, edgesOf, made}
 use Rattle.region.specs.Region.{buildOf, containsOf}
 use Rattle.region_file.specs.File.{fileOf}
@@ -84,7 +84,7 @@ atEdges region f = andThen region (λ v. answered (map f (edgesOf v)))
 
 -- whether each edge is in range, whether it is counted, and the dot product with its normal
 abbrev pub rangesAt : Answer View → Coo3D → Answer (List Bool)
-rangesAt region p = atEdges region (λ e. inLonRange (p .lon) (e .from .lon) (e .to .lon))
+rangesAt region p = atEdges region (isInRange p)
 
 abbrev pub countsAt : Answer View → Coo3D → Answer (List Bool)
 countsAt region p = atEdges region (isCounted p)

@@ -1,23 +1,23 @@
 -- Which edges of a made region are in range at a point, and which are counted on the axis.
 use mathlib.Core.Path.{_≡_, refl, sym, ap, _∙_}
-use mathlib.Core.Bool.{Bool, true, false, and-false, and-true}
+use mathlib.Core.Bool.{Bool, true, false, _||_, and-false, and-true}
 use mathlib.Core.List.{List, [], _∷_}
-use lib.Ieee.{Float, neg, lt}
-use Rattle.float.specs.Doubles.{_⊗_, nought, one, isFinite}
+use lib.Ieee.{Float, neg, lt, eq}
+use Rattle.float.specs.Doubles.{_⊗_, nought, one}
 use Rattle.float.proofs.Axis.{on-axis, once, once-back}
+use Rattle.float.proofs.Finite.{Zero}
 use Rattle.coo3d.specs.declared.Coo3D.{Coo3D}
 use Rattle.coo3d.specs.declared.Vect3.{Vect3}
 use Rattle.coo3d.specs.Vectors.{vectOfPoint, dotOf}
-use Rattle.domain.proofs.Inside.{both}
-use Rattle.lists.specs.Counts.{exactlyOne, oddMany, isOdd}
+use Rattle.lists.specs.Counts.{exactlyOne, oddMany, isOdd, every}
 use Rattle.lists.specs.Cyclic.{lastOf, along}
-use Rattle.lists.proofs.All.{All, none, more, all-both}
+use Rattle.lists.proofs.All.{All, all-both, every-each, both}
 use Rattle.lists.proofs.Odd.{odd, odd-same, odd-none, odd-both, odd-more, changes, closed-walk, one-false}
 use Rattle.region.specs.Edges.{Edge, normalOf, edge, crossesSeam, isInRange, isCounted}
-use Rattle.region.specs.View.{nowhere, seamsFrom, seamsOf, edgesOf, edgesFrom, made}
+use Rattle.region.specs.View.{View, nowhere, seamsFrom, seamsOf, edgesOf, edgesFrom, made}
 use Rattle.region.proofs.Drawn.{odd-drawn, each-drawn}
-use Rattle.poles.specs.Poles.{allNorth}
-use Rattle.poles.proofs.InRange.{in-range-is}
+use Rattle.region.proofs.InRange.{in-range-is, meridian-never}
+use Rattle.poles.specs.Poles.{isNorth, isNorthOrMeridian}
 use Rattle.poles.proofs.Normals.{Corner, Northern, northern}
 
 abbrev crosses : Coo3D → Coo3D → Bool
@@ -30,7 +30,7 @@ unfolding oddMany along seamsFrom
 seams-odd from [] = refl
 seams-odd from (c ∷ cs) = ap (exactlyOne (crosses from c)) (seams-odd c cs) ∙ sym (odd-more (crosses from c) (seamsFrom c cs))
 
-module _ (q : Coo3D) (finite : isFinite (q .lon) ≡ true) where
+module _ (q : Coo3D) where
   abbrev east : Coo3D → Bool
   east c = lt (q .lon) (c .lon)
 
@@ -41,7 +41,7 @@ module _ (q : Coo3D) (finite : isFinite (q .lon) ≡ true) where
   turns e = changes east (e .from) (e .to)
 
   explained : (a b : Coo3D) → Corner a → Corner b → isInRange q (edge a b) ≡ exactlyOne (steps (edge a b)) (turns (edge a b))
-  explained a b p r = in-range-is (q .lon) finite (a .lon) (b .lon) (p .lon) (r .lon) (p .held) (r .held)
+  explained a b p r = in-range-is (q .lon) (a .lon) (b .lon) (p .lon) (r .lon) (p .held) (r .held)
 
   pub in-range-odd : {cs : List Coo3D} (flag : Bool) → All Corner cs → oddMany (isInRange q) (edgesOf (made cs flag)) ≡ isOdd (seamsOf cs)
   unfolding seamsOf
@@ -56,10 +56,10 @@ module _ (q : Coo3D) (finite : isFinite (q .lon) ≡ true) where
 
 -- ---- on the axis
 
-module _ (q : Coo3D) (x : q .x ≡ nought) (y : q .y ≡ nought) where
+module _ (q : Coo3D) (x : Zero (q .x)) (y : Zero (q .y)) where
   axis-dot : (n : Vect3) → Northern n → lt nought (dotOf (vectOfPoint q) n) ≡ lt nought (q .z ⊗ n .z)
   unfolding dotOf
-  axis-dot n h = rw (x, y) (on-axis (n .x) (n .y) (q .z) (n .z) (h .x) (h .y))
+  axis-dot n h = on-axis (q .x) (q .y) (n .x) (n .y) (q .z) (n .z) x y (h .x) (h .y)
 
   -- at the southern pole no edge is counted
   module _ (z : q .z ≡ neg one) where
@@ -73,24 +73,40 @@ module _ (q : Coo3D) (x : q .x ≡ nought) (y : q .y ≡ nought) where
     pub none-counted : {cs : List Coo3D} (flag : Bool) → All Corner cs → oddMany (isCounted q) (edgesOf (made cs flag)) ≡ false
     none-counted flag h = odd-none (isCounted q) (each-drawn Corner (λ e. isCounted q e ≡ false) never flag h)
 
-  -- at the northern pole those in range are, where each normal has z above 0
+  -- at the northern pole an edge is counted where it is in range, if its normal has z above 0; along a meridian it is neither
   module _ (z : q .z ≡ one) where
-    always : (e : Edge) → Northern (e .normal) → lt nought (e .normal .z) ≡ true → isCounted q e ≡ isInRange q e
+    counted : (a b : Coo3D) → Corner a → Corner b → isNorthOrMeridian (edge a b) ≡ true → isCounted q (edge a b) ≡ isInRange q (edge a b)
     unfolding isCounted
-    always e n north =
-        let d : lt nought (dotOf (vectOfPoint q) (e .normal)) ≡ true = axis-dot (e .normal) n ∙ ap (λ (u : Float). lt nought (u ⊗ e .normal .z)) z ∙ once (e .normal .z) (n .held) ∙ north in
-        rw d (and-true (isInRange q e))
+    counted a b p r h = either (isNorth (normalOf a b)) (eq (a .lon) (b .lon)) north along-it h
+      where
+        either : (u v : Bool) → (u ≡ true → isCounted q (edge a b) ≡ isInRange q (edge a b)) → (v ≡ true → isCounted q (edge a b) ≡ isInRange q (edge a b)) → u || v ≡ true → isCounted q (edge a b) ≡ isInRange q (edge a b)
+        either true v f g e = f refl
+        either false v f g e = g e
 
-    north-from : (from : Coo3D) (cs : List Coo3D) (ns : List Vect3) → allNorth ns ≡ true → All (λ e. lt nought (e .normal .z) ≡ true) (edgesFrom from cs ns)
-    unfolding allNorth edgesFrom
-    north-from from [] ns h = none
-    north-from from (c ∷ cs) [] h = none
-    north-from from (c ∷ cs) (n ∷ ns) h = let b = both (lt nought (n .z)) (allNorth ns) h in more (b .0) (north-from c cs ns (b .1))
+        north : isNorth (normalOf a b) ≡ true → isCounted q (edge a b) ≡ isInRange q (edge a b)
+        north up =
+            let n = northern a b p r in
+            let d : lt nought (dotOf (vectOfPoint q) (normalOf a b)) ≡ true = axis-dot (normalOf a b) n ∙ ap (λ (u : Float). lt nought (u ⊗ normalOf a b .z)) z ∙ once (normalOf a b .z) (n .held) ∙ up in
+            rw d (and-true (isInRange q (edge a b)))
 
-    pub all-counted : {cs : List Coo3D} (flag : Bool) → All Corner cs → allNorth (made cs flag .normals) ≡ true → oddMany (isCounted q) (edgesOf (made cs flag)) ≡ oddMany (isInRange q) (edgesOf (made cs flag))
-    unfolding edgesOf
+        along-it : eq (a .lon) (b .lon) ≡ true → isCounted q (edge a b) ≡ isInRange q (edge a b)
+        along-it e = rw (meridian-never (q .lon) (a .lon) (b .lon) (p .lon) (r .lon) e)
+
+    pub all-counted : {cs : List Coo3D} (flag : Bool) → All Corner cs → every isNorthOrMeridian (edgesOf (made cs flag)) ≡ true
+        → oddMany (isCounted q) (edgesOf (made cs flag)) ≡ oddMany (isInRange q) (edgesOf (made cs flag))
     all-counted {cs} flag h north =
         odd-same (isCounted q) (isInRange q)
-        (all-both (λ e. Northern (e .normal)) (λ e. lt nought (e .normal .z) ≡ true) (λ e. isCounted q e ≡ isInRange q e) always
-        (each-drawn Corner (λ e. Northern (e .normal)) northern flag h)
-        (north-from (lastOf nowhere cs) cs (made cs flag .normals) north))
+        (all-both (λ e. isNorthOrMeridian e ≡ true → isCounted q e ≡ isInRange q e) (λ e. isNorthOrMeridian e ≡ true) (λ e. isCounted q e ≡ isInRange q e) (λ e. λ f. λ k. f k)
+        (each-drawn Corner (λ e. isNorthOrMeridian e ≡ true → isCounted q e ≡ isInRange q e) counted flag h)
+        (every-each isNorthOrMeridian (edgesOf (made cs flag)) north))
+
+-- normals that all have z above 0 are a case of it
+north-from : (from : Coo3D) (cs : List Coo3D) (ns : List Vect3) → every isNorth ns ≡ true → every isNorthOrMeridian (edgesFrom from cs ns) ≡ true
+unfolding every edgesFrom
+north-from from [] ns h = refl
+north-from from (c ∷ cs) [] h = refl
+north-from from (c ∷ cs) (n ∷ ns) h = let b = both (isNorth n) (every isNorth ns) h in rw (b .0, north-from c cs ns (b .1))
+
+pub north-edges : (v : View) → every isNorth (v .normals) ≡ true → every isNorthOrMeridian (edgesOf v) ≡ true
+unfolding edgesOf
+north-edges v h = north-from (lastOf nowhere (v .corners)) (v .corners) (v .normals) h

@@ -1,4 +1,3 @@
-pub mod InRange
 pub mod Normals
 pub mod Edges
 pub mod Poles

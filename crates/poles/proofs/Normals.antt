@@ -12,7 +12,8 @@ use Rattle.coo3d.specs.declared.Vect3.{Vect3}
 use Rattle.coo3d.specs.Points.{ofDoubles}
 use Rattle.coo3d.specs.Vectors.{vectOfPoint, crossOf, oppositeOf}
 use Rattle.domain.proofs.Handed.{Settled}
-use Rattle.domain.proofs.Inside.{both, settled-finite, settled-placed}
+use Rattle.domain.proofs.Inside.{settled-finite, settled-placed}
+use Rattle.lists.proofs.All.{both}
 use Rattle.region.specs.Edges.{northward, normalOf}
 
 pub record Corner (c : Coo3D) : Type 0 where

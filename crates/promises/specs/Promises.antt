@@ -17,8 +17,8 @@ use Rattle.edit_theorem.specs.Record.{Plain}
 use Rattle.edit_theorem.specs.Theorem.{Run, Holds, startOf}
 use Rattle.edits.specs.Edits.{Edit}
 use Rattle.great_circles.specs.Queries.{arcFirstOf, arcAllOf}
+use Rattle.making.specs.Made.{Made}
 use Rattle.marked_cases.specs.Cases.{corners, MarkedCases}
-use Rattle.poles.specs.Made.{Made}
 use Rattle.poles.specs.Poles.{Poles}
 use Rattle.refusal.specs.Answer.{answered}
 use Rattle.refusal.specs.declared.Outcome.the-variants.{Done}
@@ -57,9 +57,9 @@ pub record Promises : Type 0 where
   pub edits-made : (r last : Region) (es : List Edit) → IsMade (viewOf r) → editsOfDoubles es ≡ true → Run r es last → IsMade (viewOf last)
   -- In every made region the stored seam count is that of its corners.
   pub seams-made : (v : View) → IsMade v → v .seamCount ≡ seamsOf (v .corners)
-  -- The poles explained by the seam count, in every region that was built, read, or edited in any list: `Poles` has the three theorems. At every legal point the
-  -- number of edges in range is odd exactly when the seam count is; (0, 0, -1) is contained exactly when the flag is set; and (0, 0, 1), where every stored normal
-  -- has z above 0, exactly when one of these holds: the flag is set; the seam count is odd.
+  -- The poles explained by the seam count, in every region that was built, read, or edited in any list: `Poles` has the theorems. At every legal point the
+  -- number of edges in range is odd exactly when the seam count is; (0, 0, −1) is contained exactly when the flag is set; and (0, 0, 1), where every stored normal
+  -- has z above 0, exactly when exactly one of these holds: the flag is set; the seam count is odd. Edges along a meridian may have any normal.
   pub poles : (r : Region) → Made r → Poles r
   -- Document 01's marked cases hold of S.
   pub marked-cases : MarkedCases (buildOf corners 4 Default)

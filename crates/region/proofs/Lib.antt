@@ -4,6 +4,7 @@ pub mod Held
 pub mod Corners
 pub mod Seam
 pub mod Drawn
+pub mod InRange
 pub mod Rules
 pub mod Flags
 pub mod Answered

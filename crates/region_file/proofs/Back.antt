@@ -12,9 +12,9 @@ use lib.Ieee.Bits.{ofBits-toBits, toBits-lt, toBits-ofBits}
 use lib.ListN.{length, take, drop, length-drop}
 use lib.Pow.{areBytes}
 use lib.Seq.{length-take-le}
-use Rattle.domain.proofs.Inside.{both}
 use Rattle.float.specs.Doubles.{isFinite}
 use Rattle.region_file.specs.Bytes.{numberIn, bytesOf, numberAt, doubleAt, doubleBytes}
+use Rattle.lists.proofs.All.{both}
 
 -- ---- a number of `w` bytes
 

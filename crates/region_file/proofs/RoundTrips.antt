@@ -12,9 +12,9 @@ use lib.Pow.{areBytes}
 use lib.Seq.{drop-append-add, drop-append-seam, drop-drop, take-add, take-all}
 use Rattle.coo3d.specs.declared.Coo3D.{Coo3D}
 use Rattle.coo3d.specs.Points.{ofDoubles, areDoubles}
-use Rattle.domain.proofs.Inside.{Inside, both, Finite, settled-finite, points-back, back-in, back-same}
+use Rattle.domain.proofs.Inside.{Inside, Finite, settled-finite, points-back, back-in, back-same}
 use Rattle.float.specs.Doubles.{isFinite}
-use Rattle.lists.proofs.All.{more}
+use Rattle.lists.proofs.All.{more, both}
 use Rattle.refusal.specs.Answer.{Answer, answered, refused, andThen}
 use Rattle.refusal.proofs.Answers.{never}
 use Rattle.region.specs.View.{View, made}

@@ -315,16 +315,20 @@ fn corner_over_the_pole() {
     ask(b"  65 S      ", set_right, p);
 }
 
-// Both sides of the pole: 80 S in the half that is meant, and two places and the north pole in the other.
-fn halves(r: Region) {
-    // 255, -80; 90, -80; 90, -30
-    let west = at(
+// 255, -80
+fn west() -> Coo3D {
+    at(
         -0.04494345552754778,
         -0.16773125949652062,
         -0.984807753012208,
         4.4505895925855405,
         -1.3962634015954636,
-    );
+    )
+}
+
+// Both sides of the pole: 80 S in the half that is meant, and two places and the north pole in the other.
+fn halves(r: Region) {
+    // 90, -80; 90, -30
     let east = at(
         0.0,
         0.17364817766693036,
@@ -339,8 +343,10 @@ fn halves(r: Region) {
         1.5707963267948966,
         -0.5235987755982989,
     );
+    tell::say(b"  seam count");
+    tell::count(region::seam_count(r));
     ask(b"  south pole", r, south_pole(0.0));
-    ask(b"  80 S 105 W", r, west);
+    ask(b"  80 S 105 W", r, west());
     ask(b"  80 S  90 E", r, east);
     ask(b"  30 S  90 E", r, far_east);
     ask(
@@ -356,21 +362,36 @@ fn halves(r: Region) {
 }
 
 fn edge_over_the_pole() {
-    // 90, -89
-    let corner = at(
+    // 90, -89 and 270, -89
+    let beyond = at(
         0.0,
         0.01745240643728351,
         -0.9998476951563913,
         1.5707963267948966,
         -1.5533430342749532,
     );
+    let before = at(
+        0.0,
+        -0.01745240643728351,
+        -0.9998476951563913,
+        4.71238898038469,
+        -1.5533430342749532,
+    );
     let r = by_default(b"the western half", western_half(), 7);
     halves(r);
     halves(by_default(b"the same corners back", western_half_back(), 7));
-    tell::call(b"the western half, a corner put in at 89 S 90 E");
-    let mended = edits::insert(r, 0, corner);
-    tell::edited(mended);
-    halves(mended.region);
+    tell::call(b"the western half with the pole: a corner put in at 89 S 90 E");
+    let with_pole = edits::insert(r, 0, beyond);
+    tell::edited(with_pole);
+    halves(with_pole.region);
+    tell::call(b"the western half without the pole: a corner put in at 89 S 90 W");
+    let without = edits::insert(r, 0, before);
+    tell::edited(without);
+    halves(without.region);
+    tell::call(b"80 S 105 W held");
+    let held = edits::hold(without.region, west());
+    tell::edited(held);
+    halves(held.region);
 }
 
 fn main() {
