@@ -8,7 +8,7 @@ use borrow.Author.Tests.{ltb-false}
 use lib.Dec.{T, ltb}
 use lib.IntN.{ℤ, pos}
 use lib.Ieee.{Float, nan, inf, fin, binary64, up, down, unlike, round, sum, add, sub, mul, neg, lt, le, eq, ofBits}
-use lib.Ieee.Bits.{is-true, is-false}
+use lib.Ieee.Bits.{is-true}
 use lib.Ieee.Fits.{down-pos, and-l, and-r}
 use lib.Ieee.Order.{round-mono}
 use lib.Ieee.Positive.{above}

@@ -1,5 +1,4 @@
 -- Each way makes a region: what was built, read or edited in any list is `IsMade`.
-use mathlib.Core.Path.{_≡_}
 use Rattle.edit_theorem.proofs.Made.{edits-made}
 use Rattle.region.specs.declared.Region.{Region}
 use Rattle.region.specs.Made.{IsMade}

@@ -16,7 +16,7 @@ use Rattle.region.specs.declared.Built.{Built}
 use Rattle.region.specs.declared.ContainsSouthPoleMethod.the-variants.{Default}
 use Rattle.region.specs.declared.Region.{Region}
 use Rattle.region.specs.Edges.{northward, normalOf, crossesSeam, inLonRange}
-use Rattle.region.specs.Region.{buildOf, Builds}
+use Rattle.region.specs.Region.{Builds}
 use Rattle.region.specs.View.{viewOf, seamsFrom, seamsOf, edgesFrom, edgesOf, normalsOf, made, inRangeCount}
 use Rattle.poles.specs.Poles.{isNorth, northPole}
 
