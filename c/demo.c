@@ -168,7 +168,7 @@ static void print_poles(void)
     say_answer(jigwandor_contains(file, len, 0, 0, -1, 0, 0));
     printf("\n   north pole  ");
     say_answer(jigwandor_contains(file, len, 0, 0, 1, 0, 0));
-    printf("\n   seam count  %u, %s\n\n", (unsigned)crossings, crossings % 2 != 0 ? "odd: round a pole" : "even: round neither pole");
+    printf("\n   seam count  %u, %s\n\n", (unsigned)crossings, crossings % 2 != 0 ? "odd: round a pole" : "even: round neither pole, or twice");
 }
 
 /* ---- fixes */
