@@ -2,4 +2,5 @@ pub mod Passing
 pub mod Cyclic
 pub mod Shifts
 pub mod All
+pub mod Many
 pub mod Odd

@@ -1,64 +1,34 @@
 -- `region::contains` meets its contract. Assumes nothing.
-use Prim.Native.Nat.{ℕ, _+_, _-_, _≤_, _<_}
-use native.Mathlib.Omega.{arith}
+use Prim.Native.Nat.{ℕ, _-_, _≤_}
 use mathlib.Core.Path.{_≡_, refl, sym, ap, _∙_}
 use mathlib.Core.Bool.{Bool, true, false}
 use mathlib.Core.Logic.{inl, inr}
 use mathlib.Core.List.{List, [], _∷_}
-use lib.Ieee.{Float, lt}
-use lib.ListN.{length, getD}
+use lib.ListN.{length}
 use borrow.Author.Needs.{needs}
 use Rattle.coo3d.specs.declared.Coo3D.{Coo3D}
-use Rattle.coo3d.specs.declared.Vect3.{Vect3}
-use Rattle.coo3d.specs.Vectors.{vectOfPoint, dotOf}
-use Rattle.float.specs.Doubles.{nought}
 use Rattle.domain.specs.Checks.{pointAnswer, pointAt}
-use Rattle.domain.proofs.Counts.{count-none, count-many, count-few}
-use Rattle.domain.proofs.Points.{point-refused}
+use Rattle.domain.proofs.Counts.{count-none, count-many}
 use Rattle.lists.specs.Counts.{exactlyOne, oddMany}
 use Rattle.refusal.specs.Answer.{answered, refused}
-use Rattle.region.specs.declared.Region.{Region}
-use Rattle.region.specs.Edges.{Edge, inLonRange, isCounted}
-use Rattle.region.specs.View.{View, viewOf, nowhere, oddAt, contained, edgesOf}
+use Rattle.region.specs.Edges.{isCounted}
+use Rattle.region.specs.View.{View, viewOf, contained}
 use Rattle.region.specs.Region.{containsOf}
 use Rattle.region.proofs.Lengths.{unmap}
 use Rattle.region.proofs.Held.{held, heldOf}
-use Rattle.region.proofs.Edges.{edgesLeft, edgeAt, start, turn, done}
-use Rattle.lists.proofs.Odd.{odd-turn, odd-done, one-false}
+use Rattle.region.proofs.Edges.{edgesLeft, edgeAt, start}
+use Rattle.region.proofs.Containing.{asked-outside, asked-inside, started, passed, all-passed, out-of-range, in-range-there, room}
 use Rattle.region.proofs.contains.Statement.{statement}
 use Rattle.region.proofs.contains.Tie as tie
 
 module _ (v : View) (p : Coo3D) (some : v .count ≡ 0 → ⊥) (few : v .count ≤ 64) where
   outside : (n : ℕ) (vs : List ℕ) → refused n vs ≡ pointAt 0 p → refused 1 (0 ∷ []) ≡ containsOf v p
   unfolding containsOf
-  outside n vs e = rw (count-few (v .count) _ some few, point-refused 0 p n vs e)
+  outside n vs e = sym (asked-outside (v .count) p (λ q. contained q v) some few n vs e)
 
   inside : (q : Coo3D) (b : Bool) → answered q ≡ pointAt 0 p → b ≡ contained q v → answered b ≡ containsOf v p
   unfolding containsOf
-  inside q b e o = rw (count-few (v .count) _ some few, sym e, o)
-
-started : (p : Coo3D) (r : Region) (es : List Edge) → edgesOf (viewOf r) ≡ es → contained p (viewOf r) ≡ exactlyOne (r .«contains_south_pole») (oddMany (isCounted p) es)
-unfolding contained oddAt
-started p r es e = rw e
-
--- an edge is passed, and the flag goes on as the edge says
-passed : (p : Coo3D) (r : Region) (odd odd' : Bool) (from : Coo3D) (i : ℕ) → r .count ≤ length (r .vertices) → r .count ≤ length (r .«cross_products») → i < r .count → odd' ≡ exactlyOne odd (isCounted p (edgeAt r from i)) → exactlyOne odd' (oddMany (isCounted p) (edgesLeft r (getD (r .vertices) i nowhere) (i + 1))) ≡ exactlyOne odd (oddMany (isCounted p) (edgesLeft r from i))
-passed p r odd odd' from i long long' below e =
-    rw (e) (sym (odd-turn (isCounted p) odd (edgeAt r from i) _)) ∙ ap (λ (es : List Edge). exactlyOne odd (oddMany (isCounted p) es)) (sym (turn r from i long long' below))
-
-all-passed : (p : Coo3D) (r : Region) (odd : Bool) (from : Coo3D) (i : ℕ) → r .count ≤ length (r .vertices) → r .count ≤ i → odd ≡ exactlyOne odd (oddMany (isCounted p) (edgesLeft r from i))
-all-passed p r odd from i long over = sym (odd-done (isCounted p) odd) ∙ ap (λ (es : List Edge). exactlyOne odd (oddMany (isCounted p) es)) (sym (done r from i long over))
-
-out-of-range : (p : Coo3D) (e : Edge) (odd : Bool) → inLonRange (p .lon) (e .from .lon) (e .to .lon) ≡ false → odd ≡ exactlyOne odd (isCounted p e)
-unfolding isCounted
-out-of-range p e odd h = rw h (sym (one-false odd))
-
-in-range-there : (p : Coo3D) (e : Edge) (odd : Bool) (v : Vect3) (d : Float) → inLonRange (p .lon) (e .from .lon) (e .to .lon) ≡ true → v ≡ vectOfPoint p → d ≡ dotOf v (e .normal) → exactlyOne odd (lt nought d) ≡ exactlyOne odd (isCounted p e)
-unfolding isCounted
-in-range-there p e odd v d h i j = rw (h, sym i, j)
-
-long : (n m : ℕ) → m ≡ 64 → n ≤ 64 → n ≤ m
-long n m e h = omega (arith, e, h)
+  inside q b e o = ap answered o ∙ sym (asked-inside (v .count) p (λ q. contained q v) some few q e)
 
 abbrev Inv-loop : tie.InvT-loop
 Inv-loop r count p is-inside vertices last from₀ i₀ from i = (i ≤ r .count) × (exactlyOne (r .«contains_south_pole») (oddMany (isCounted p) (edgesLeft r from i)) ≡ contained p (viewOf r))
@@ -105,7 +75,7 @@ loop-holds : tie.Need-loop-holds Inv-loop μ-loop Inv-loop2 μ-loop2
 loop-holds c =
     let r = c .before .before .before .before .before .before .before .before .args .r in
     let e : length (r .vertices) ≡ 64 = search unmap in
-    (search needs, sym (started _ r _ (start r (search needs) (long _ _ e (c .before .before .before .before .before .before .if2 .left)))))
+    (search needs, sym (started _ r _ (start r (search needs) (room _ _ e (c .before .before .before .before .before .before .if2 .left)))))
 
 mul-to : tie.Need-mul-to Inv-loop μ-loop Inv-loop2 μ-loop2
 mul-to c = search needs
@@ -130,7 +100,7 @@ loop-again c =
     let p = c .before .before .before .before .before .before .before .before .p .given .0 .0 in
     let l = c .before .before .before .before .loop in
     let few = c .before .before .before .before .before .before .before .before .before .before .before .if2 .left in
-    (search needs, passed p r (r .«contains_south_pole») _ (l .from) (l .i) (long _ _ e few) (long _ _ d few) (search needs) (out-of-range p (edgeAt r (l .from) (l .i)) (r .«contains_south_pole») (sym (c .before .is-in-lon-range .ensures) ∙ c .if3 .left)) ∙ l .inv .1)
+    (search needs, passed p r (r .«contains_south_pole») _ (l .from) (l .i) (room _ _ e few) (room _ _ d few) (search needs) (out-of-range p (edgeAt r (l .from) (l .i)) (r .«contains_south_pole») (sym (c .before .is-in-lon-range .ensures) ∙ c .if3 .left)) ∙ l .inv .1)
 
 decide-requires : tie.Need-decide-requires Inv-loop μ-loop Inv-loop2 μ-loop2
 decide-requires c κs = search needs
@@ -144,7 +114,7 @@ returns-4 c =
     let few = c .before .before .before .before .before .before .before .before .before .before .if2 .left in
     c .decide .ensures
     ∙ inside _ _ (c .before .before .before .before .before .before .before .before .before .before .before .if1 .left) few _ _ (ap pointAnswer (sym (c .before .before .before .before .before .before .before .p .given .1)) ∙ c .before .before .before .before .before .before .before .before .before .check-point .ensures)
-    (all-passed p r _ (l .from) (l .i) (long _ _ e few) (search needs) ∙ l .inv .1)
+    (all-passed p r _ (l .from) (l .i) (room _ _ e few) (search needs) ∙ l .inv .1)
 
 to-vect3-requires : tie.Need-to-vect3-requires Inv-loop μ-loop Inv-loop2 μ-loop2
 to-vect3-requires c κs = search needs
@@ -192,7 +162,7 @@ loop2-again c =
       | inr t ↦ t .1 ∙ out-of-range p (edgeAt w (m .from) (m .i)) (m .is-inside) (sym in-range ∙ t .0 .left)
     ]
     in
-    (search needs, passed p w (m .is-inside) _ (m .from) (m .i) (long _ _ e few) (long _ _ d few) (search needs) goes-on ∙ m .inv .1)
+    (search needs, passed p w (m .is-inside) _ (m .from) (m .i) (room _ _ e few) (room _ _ d few) (search needs) goes-on ∙ m .inv .1)
 
 decide-requires-2 : tie.Need-decide-requires-2 Inv-loop μ-loop Inv-loop2 μ-loop2
 decide-requires-2 c κs = search needs
@@ -208,7 +178,7 @@ returns-5 c =
     let few = c .before .before .before .before .before .before .before .before .before .before .before .before .before .before .if2 .left in
     c .decide2 .ensures
     ∙ inside _ _ (c .before .before .before .before .before .before .before .before .before .before .before .before .before .before .before .if1 .left) few _ _ (ap pointAnswer (sym (c .before .before .before .before .before .before .before .before .before .before .before .p .given .1)) ∙ c .before .before .before .before .before .before .before .before .before .before .before .before .before .check-point .ensures)
-    (all-passed p r _ (m .from) (m .i) (long _ _ e few) (search needs) ∙ m .inv .1 ∙ l .inv .1)
+    (all-passed p r _ (m .from) (m .i) (room _ _ e few) (search needs) ∙ m .inv .1 ∙ l .inv .1)
 
 pub contains-spec : {M : Type 1} → statement M
 contains-spec =

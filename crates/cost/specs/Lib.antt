@@ -1,0 +1,2 @@
+pub mod RangeCount
+pub mod Outline
