@@ -1,2 +1,3 @@
-pub mod Corners
 pub mod Ranging
+pub mod Drawing
+pub mod Corners

@@ -19,7 +19,8 @@ by-test : (b : Bool) (i : ℕ) (p q : Coo3D) → refuseIf (not b) 1 (i ∷ []) (
 by-test true i p q e = (refl, same-answer e)
 by-test false i p q e = never e
 
-settled-in : (q : Coo3D) → inDomain q ≡ true → Settled q
+-- a point of the domain
+pub settled-in : (q : Coo3D) → inDomain q ≡ true → Settled q
 unfolding pointAt
 settled-in q h i = rw h
 

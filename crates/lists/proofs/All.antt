@@ -1,9 +1,9 @@
--- Lists whose elements all have a property: what an edit of the list keeps of it, and that the last element has it.
+-- Lists whose elements all have a property: what an edit of the list keeps of it, and that the first n and the last element have it.
 use Prim.Native.Nat.{ℕ, zero, suc}
 use mathlib.Core.Path.{_≡_, refl}
 use mathlib.Core.Bool.{Bool, true, false, _&&_, false≢true}
 use mathlib.Core.List.{List, [], _∷_}
-use lib.ListN.{set}
+use lib.ListN.{set, take}
 use Rattle.lists.specs.Counts.{every}
 use Rattle.lists.specs.Cyclic.{lastOf, ins, del}
 
@@ -28,6 +28,11 @@ module _ {A : Type 0} {P : A → Type 0} where
   all-del i none = none
   all-del zero (more k t) = t
   all-del (suc i) (more k t) = more k (all-del i t)
+
+  pub all-take : {l : List A} (n : ℕ) → All P l → All P (take n l)
+  all-take zero h = none
+  all-take (suc n) none = none
+  all-take (suc n) (more k t) = more k (all-take n t)
 
   pub all-last : {l : List A} (d : A) → P d → All P l → P (lastOf d l)
   unfolding lastOf

@@ -4,3 +4,4 @@ pub mod Shifts
 pub mod All
 pub mod Many
 pub mod Odd
+pub mod Alternating

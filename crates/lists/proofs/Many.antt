@@ -1,11 +1,12 @@
 -- How many elements of a list have a property: a loop that counts them, and that they are no more than the list has.
 use Prim.Native.Nat.{ℕ, _+_, _≤_}
 use native.Mathlib.Omega.{arith}
-use mathlib.Core.Path.{_≡_}
+use mathlib.Core.Path.{_≡_, refl, ap}
 use mathlib.Core.Bool.{Bool, true, false, cond}
-use mathlib.Core.List.{List, [], _∷_}
+use mathlib.Core.List.{List, [], _∷_, map}
 use lib.ListN.{length}
 use Rattle.lists.specs.Counts.{howMany}
+use Rattle.lists.proofs.All.{All, none, more}
 
 pub one-more : (b : Bool) → cond b 1 0 ≤ 1
 one-more true = omega arith
@@ -25,3 +26,15 @@ module _ {A : Type 0} (has : A → Bool) where
   unfolding howMany
   many-most [] = omega arith
   many-most (a ∷ l) = omega (arith, one-more (has a), many-most l)
+
+  -- by the marks that the elements have
+  pub many-marks : (l : List A) → howMany has l ≡ howMany (λ b. b) (map has l)
+  unfolding howMany
+  many-marks [] = refl
+  many-marks (a ∷ l) = ap (λ (n : ℕ). cond (has a) 1 0 + n) (many-marks l)
+
+-- properties that each element has alike
+pub many-same : {A : Type 0} (f g : A → Bool) {l : List A} → All (λ a. f a ≡ g a) l → howMany f l ≡ howMany g l
+unfolding howMany
+many-same f g none = refl
+many-same f g (more h t) = rw (h, many-same f g t)

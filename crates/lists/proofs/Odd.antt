@@ -3,7 +3,7 @@ use Prim.Native.Nat.{ℕ, _+_, _%_}
 use native.Mathlib.Omega.{arith}
 use mathlib.Core.Path.{_≡_, refl, sym, ap, _∙_}
 use mathlib.Core.Bool.{Bool, true, false, not, cond}
-use mathlib.Core.List.{List, [], _∷_}
+use mathlib.Core.List.{List, [], _∷_, map}
 use borrow.Author.Tests.{eqb-true, eqb-false, eq-eqb, ne-eqb}
 use lib.Dec.{eqb}
 use Rattle.lists.specs.Counts.{exactlyOne, oddMany, howMany, isOdd}
@@ -65,6 +65,12 @@ module _ {A : Type 0} (has : A → Bool) (odd : Bool) where
   pub odd-done : exactlyOne odd (oddMany has []) ≡ odd
   unfolding oddMany
   odd-done = one-false odd
+
+-- by the marks that the elements have
+pub odd-marks : {A : Type 0} (has : A → Bool) (l : List A) → oddMany has l ≡ oddMany (λ b. b) (map has l)
+unfolding oddMany
+odd-marks has [] = refl
+odd-marks has (a ∷ l) = ap (exactlyOne (has a)) (odd-marks has l)
 
 -- properties that each element has alike
 pub odd-same : {A : Type 0} (f g : A → Bool) {l : List A} → All (λ a. f a ≡ g a) l → oddMany f l ≡ oddMany g l

@@ -1,7 +1,7 @@
 -- `cost::saw` meets its contract. Assumes nothing.
 use Prim.Native.Nat.{_-_}
 use borrow.Author.Needs.{needs}
-use Rattle.cost.proofs.Corners.{Drawing, drawing-starts, drawing-turn, drawing-ends}
+use Rattle.cost.proofs.Drawing.{Drawing, drawing-starts, drawing-turn, drawing-ends}
 use Rattle.cost.proofs.saw.Statement.{statement}
 use Rattle.cost.proofs.saw.Tie as tie
 
