@@ -1,14 +1,15 @@
 -- Laws for the loop that decides containment and counts the edges in range.
-use Prim.Native.Nat.{ℕ, _+_, _-_, _≤_, _<_}
+use Prim.Native.Nat.{ℕ, _+_, _-_, _^_, _≤_, _<_}
 use native.Mathlib.Omega.{arith}
-use mathlib.Core.Path.{_≡_, refl, sym, ap, _∙_}
-use mathlib.Core.Bool.{Bool, true, false, cond}
+use mir.Val.{boolByte}
+use mathlib.Core.Path.{_≡_, sym, ap, _∙_}
+use mathlib.Core.Bool.{Bool, cond}
 use mathlib.Core.List.{List}
 use lib.ListN.{length, getD}
 use Rattle.coo3d.specs.declared.Coo3D.{Coo3D}
 use Rattle.domain.specs.Checks.{pointAt}
 use Rattle.lists.specs.Counts.{exactlyOne, oddMany, howMany}
-use Rattle.lists.proofs.Many.{many-turn, many-done, one-more}
+use Rattle.lists.proofs.Many.{many-turn, many-done}
 use Rattle.refusal.specs.Answer.{answered, refused, decisionAnswer}
 use Rattle.region.specs.declared.Region.{Region}
 use Rattle.region.specs.Edges.{Edge, isInRange, isCounted}
@@ -17,6 +18,7 @@ use Rattle.region.specs.View.{View, viewOf, nowhere, edgesOf, inRangeCount, odd
 use Rattle.region.proofs.Containing.{asked-inside, passed, all-passed}
 use Rattle.region.proofs.Edges.{edgesLeft, edgeAt, start, turn, done}
 use Rattle.region.proofs.Held.{heldOf, held-edges}
+use Rattle.region.proofs.Seam.{as-number, one-at-most}
 use Rattle.cost.specs.declared.RangedDecision.{RangedDecision}
 use Rattle.cost.specs.RangeCount.{rangeCountOf, numberOr0, Ranged}
 
@@ -54,22 +56,24 @@ passing-starts p r flag some long =
       number = nothing-yet _ ∙ ap (howMany (isInRange p)) (sym e);
     }
 
-pub one-ranged : (p : Coo3D) (e : Edge) (n n' : ℕ) → isInRange p e ≡ true → n' ≡ n + 1 → n' ≡ n + cond (isInRange p e) 1 0
-one-ranged p e n n' h k = rw h k
-
-pub none-ranged : (p : Coo3D) (e : Edge) (n n' : ℕ) → isInRange p e ≡ false → n' ≡ n → n' ≡ n + cond (isInRange p e) 1 0
-none-ranged p e n n' h k = rw h (omega (arith, k))
-
 module _ {p : Coo3D} {r : Region} {flag side : Bool} {n i : ℕ} {from : Coo3D} (inv : Passing p r flag side n from i) (long : r .count ≤ length (r .vertices)) where
-  pub passing-turn : r .count ≤ length (r .«cross_products») → i < r .count → (side' : Bool) (n' : ℕ) → side' ≡ exactlyOne side (isCounted p (edgeAt r from i)) → n' ≡ n + cond (isInRange p (edgeAt r from i)) 1 0 → Passing p r flag side' n' (getD (r .vertices) i nowhere) (i + 1)
-  passing-turn long' below side' n' e f =
+  pub passing-turn : r .count ≤ length (r .«cross_products») → i < r .count → (side' there : Bool) → side' ≡ exactlyOne side (isCounted p (edgeAt r from i)) → there ≡ isInRange p (edgeAt r from i) → Passing p r flag side' (n + boolByte there) (getD (r .vertices) i nowhere) (i + 1)
+  passing-turn long' below side' there e f =
       let few = inv .few in
+      let more = one-at-most there in
       record {
         below = omega (arith, below);
-        few = omega (arith, few, f, one-more (isInRange p (edgeAt r from i)));
+        few = omega (arith, few, more);
         sides = passed p r side side' from i long long' below e ∙ inv .sides;
-        number = ap (λ (k : ℕ). k + howMany (isInRange p) (edgesLeft r (getD (r .vertices) i nowhere) (i + 1))) f ∙ sym (many-turn (isInRange p) n (edgeAt r from i) _) ∙ ap (λ (es : List Edge). n + howMany (isInRange p) es) (sym (turn r from i long long' below)) ∙ inv .number;
+        number = ap (λ (k : ℕ). n + k + howMany (isInRange p) (edgesLeft r (getD (r .vertices) i nowhere) (i + 1))) (as-number there ∙ ap (λ (b : Bool). cond b 1 0) f) ∙ sym (many-turn (isInRange p) n (edgeAt r from i) _) ∙ ap (λ (es : List Edge). n + howMany (isInRange p) es) (sym (turn r from i long long' below)) ∙ inv .number;
       }
+
+  -- a number of 64 bits holds it
+  pub passing-room : i < r .count → r .count ≤ 64 → (there : Bool) → n + boolByte there < 2 ^ 64
+  passing-room below most there =
+      let few = inv .few in
+      let more = one-at-most there in
+      omega (arith, few, more, below, most)
 
   passing-ends : r .count ≤ i → (side ≡ exactlyOne flag (oddMany (isCounted p) (edgesOf (viewOf r)))) × (n ≡ howMany (isInRange p) (edgesOf (viewOf r)))
   passing-ends over =

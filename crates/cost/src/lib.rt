@@ -69,10 +69,11 @@ pub fn contains_with_range_count(r: Region, coo: Coo3D) -> RangedDecision
     let mut i: usize = 0;
     while i < count {
         let to = vertices[i];
-        if region::is_in_lon_range(p, from, to) {
+        let is_in_range = region::is_in_lon_range(p, from, to);
+        in_range += is_in_range as usize;
+        if is_in_range {
             let n = normals[i];
             is_inside = is_inside != (coo3d::dot_product(v, n) > 0.0);
-            in_range += 1;
         }
         from = to;
         i += 1;

@@ -8,7 +8,7 @@ use lib.ListN.{length}
 use Rattle.lists.specs.Counts.{howMany}
 use Rattle.lists.proofs.All.{All, none, more}
 
-pub one-more : (b : Bool) → cond b 1 0 ≤ 1
+one-more : (b : Bool) → cond b 1 0 ≤ 1
 one-more true = omega arith
 one-more false = omega arith
 

@@ -1,4 +1,6 @@
 -- Every promise, by the proof that its crate has.
+use Rattle.costliest.proofs.Costliest.{costliest}
+use Rattle.costliest.proofs.Numbers.{at-most, odd-at-most}
 use Rattle.edit_theorem.proofs.Made.{edits-made}
 use Rattle.edit_theorem.proofs.Theorem.{edit-theorem}
 use Rattle.great_circles.proofs.Head.{first-is-head}
@@ -24,5 +26,8 @@ promises =
       edits-made = edits-made;
       seams-made = seams-made;
       poles = poles;
+      in-range-at-most = at-most;
+      in-range-odd-at-most = odd-at-most;
+      costliest = costliest;
       marked-cases = marked-cases;
     }

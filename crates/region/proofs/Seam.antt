@@ -14,7 +14,7 @@ use Rattle.region.specs.Edges.{crossesSeam}
 use Rattle.region.specs.View.{nowhere, seamsFrom, seamsOf}
 use Rattle.region.proofs.Edges.{last-take}
 
-as-number : (b : Bool) → boolByte b ≡ cond b 1 0
+pub as-number : (b : Bool) → boolByte b ≡ cond b 1 0
 as-number true = refl
 as-number false = refl
 

@@ -1,6 +1,8 @@
 // Requests about the region that is kept: it is built, edited, handed in, and asked about a point.
 use answers::Kept;
 use coo3d::Coo3D;
+use refusal::Decision;
+use refusal::Outcome;
 use edits::EditAnswer;
 use region::ContainsSouthPoleMethod;
 use region::Region;
@@ -151,4 +153,39 @@ pub fn seam_count(s: Stream, out: &mut Buffer, r: Region) -> Stream {
 pub fn contains(s: Stream, input: &mut Buffer, out: &mut Buffer, r: Region) -> Stream {
     let p = stream::get_point(s, input);
     answers::put_decision(p.stream, out, region::contains(r, p.value))
+}
+
+// The decision, and the number beside one that was not refused.
+pub fn contains_with_range_count(
+    s: Stream,
+    input: &mut Buffer,
+    out: &mut Buffer,
+    r: Region,
+) -> Stream {
+    let p = stream::get_point(s, input);
+    let answer = cost::contains_with_range_count(r, p.value);
+    let decision = answer.decision;
+    let t = answers::put_decision(p.stream, out, decision);
+    match decision {
+        Decision::Refused(_) => t,
+        _ => stream::put(t, out, answer.in_range as u64),
+    }
+}
+
+// The outline is kept, and its point answered.
+pub fn costliest_outline(s: Stream, input: &mut Buffer, out: &mut Buffer, r: Region) -> Kept {
+    let n = stream::get(s, input);
+    let answer = cost::costliest_outline(n.value as usize);
+    let built = answer.built;
+    let point = answer.point;
+    let outcome = built.outcome;
+    let kept = answers::put_built(n.stream, out, r, built);
+    match outcome {
+        Outcome::Refused(_) => kept,
+        Outcome::Done => {
+            let region = kept.region;
+            let stream = stream::put_point(kept.stream, out, point);
+            Kept { region, stream }
+        }
+    }
 }

@@ -64,6 +64,10 @@ const SEAM_COUNT: u64 = 27;
 
 const HAND_IN_SEAMED: u64 = 28;
 
+const CONTAINS_WITH_RANGE_COUNT: u64 = 30;
+
+const COSTLIEST_OUTLINE: u64 = 31;
+
 // What is kept from one request to the next.
 struct State {
     region: Region,
@@ -117,6 +121,9 @@ fn ask(
         SHOW_REGION => answers::put_region(s, out, r),
         SEAM_COUNT => region_requests::seam_count(s, out, r),
         CONTAINS => region_requests::contains(s, input, out, r),
+        CONTAINS_WITH_RANGE_COUNT => {
+            region_requests::contains_with_range_count(s, input, out, r)
+        }
         ARC_FIRST => crossing_requests::arc_first(s, input, out, r),
         ARC_ALL => crossing_requests::arc_all(s, input, out, r),
         IS_INTERSECTING_ARC => crossing_requests::is_intersecting_arc(s, input, out, r),
@@ -155,6 +162,7 @@ fn change(
         READ_FILE => file_requests::read(s, input, out, r),
         HAND_IN_REGION => region_requests::hand_in(s, input, out),
         HAND_IN_SEAMED => region_requests::hand_in_seamed(s, input, out),
+        COSTLIEST_OUTLINE => region_requests::costliest_outline(s, input, out, r),
         _ => unchanged(r, ask(s, number, input, out, r, z)),
     }
 }

@@ -1,8 +1,6 @@
 -- `cost::contains_with_range_count` meets its contract. Assumes nothing.
-use Prim.Native.Nat.{_+_, _-_}
-use native.Mathlib.Omega.{arith}
+use Prim.Native.Nat.{_-_}
 use mathlib.Core.Path.{_≡_, sym, ap, _∙_}
-use mathlib.Core.Bool.{cond}
 use mathlib.Core.Logic.{inl, inr}
 use mathlib.Core.List.{[], _∷_}
 use lib.ListN.{length}
@@ -10,7 +8,7 @@ use borrow.Author.Needs.{needs}
 use Rattle.domain.specs.Checks.{pointAnswer}
 use Rattle.domain.proofs.Counts.{count-none, count-many}
 use Rattle.lists.specs.Counts.{exactlyOne}
-use Rattle.region.specs.Edges.{isInRange, isCounted}
+use Rattle.region.specs.Edges.{isCounted}
 use Rattle.region.specs.Region.{containsOf}
 use Rattle.region.specs.View.{viewOf, contained, inRangeCount}
 use Rattle.region.proofs.Containing.{asked-outside, out-of-range, in-range-there, room}
@@ -18,7 +16,7 @@ use Rattle.region.proofs.Edges.{edgeAt}
 use Rattle.region.proofs.Held.{held, heldOf}
 use Rattle.region.proofs.Lengths.{unmap}
 use Rattle.cost.specs.RangeCount.{rangeCountOf}
-use Rattle.cost.proofs.Ranging.{not-ranged, ranged, Passing, passing-starts, one-ranged, none-ranged, passing-turn, all-ranged}
+use Rattle.cost.proofs.Ranging.{not-ranged, ranged, Passing, passing-starts, passing-turn, passing-room, all-ranged}
 use Rattle.cost.proofs.contains_with_range_count.Statement.{statement}
 use Rattle.cost.proofs.contains_with_range_count.Tie as tie
 
@@ -90,6 +88,16 @@ array-copy-out-to c = search needs
 is-in-lon-range-requires : tie.Need-is-in-lon-range-requires Inv-loop μ-loop
 is-in-lon-range-requires c κs = search needs
 
+cast-in-range : tie.Need-cast-in-range Inv-loop μ-loop
+cast-in-range c = search needs
+
+add-in-range : tie.Need-add-in-range Inv-loop μ-loop
+add-in-range c =
+    let r = c .before .before .before .before .before .before .before .before .before .before .before .before .before .before .args .r in
+    let e : length (r .vertices) ≡ 64 = search unmap in
+    let few = c .before .before .before .before .before .before .before .before .before .before .before .before .if2 .left in
+    record { fits = passing-room (c .before .before .before .loop .inv) (room _ _ e few) (c .before .before .loop-test .taken) few (c .is-in-lon-range .result) }
+
 mul-n : tie.Need-mul-n Inv-loop μ-loop
 mul-n c = search needs
 
@@ -98,13 +106,6 @@ array-copy-out-n c = search needs
 
 dot-product-requires : tie.Need-dot-product-requires Inv-loop μ-loop
 dot-product-requires c κs = search needs
-
-add-in-range : tie.Need-add-in-range Inv-loop μ-loop
-add-in-range c =
-    let few = c .before .before .before .before .before .before .loop .inv .few in
-    let below = c .before .before .before .before .before .loop-test .taken in
-    let small = c .before .before .before .before .before .before .before .before .before .before .before .before .before .before .before .if2 .left in
-    record { fits = omega (arith, few, below, small) }
 
 add-i : tie.Need-add-i Inv-loop μ-loop
 add-i c = search needs
@@ -121,14 +122,14 @@ loop-again c =
     let l = c .before .before .before .before .loop in
     let few = c .before .before .before .before .before .before .before .before .before .before .before .before .before .if2 .left in
     let at = edgeAt (heldOf r) (l .from) (l .i) in
-    let in-range = c .before .is-in-lon-range .ensures in
-    let goes-on : (c .if3 .is-inside ≡ exactlyOne (l .is-inside) (isCounted p at)) × (c .if3 .in-range ≡ l .in-range + cond (isInRange p at) 1 0) =
+    let there = c .before .is-in-lon-range .ensures in
+    let goes-on : c .if3 .is-inside ≡ exactlyOne (l .is-inside) (isCounted p at) =
     elim (c .if3 .came) [
-      | inl t ↦ (t .3 ∙ in-range-there p at (l .is-inside) _ _ (sym in-range ∙ t .0 .taken) (c .before .before .before .before .before .before .before .before .to-vect3 .ensures) (t .2 .ensures), one-ranged p at (l .in-range) (c .if3 .in-range) (sym in-range ∙ t .0 .taken) (t .4))
-      | inr t ↦ (t .1 ∙ out-of-range p at (l .is-inside) (sym in-range ∙ t .0 .left), none-ranged p at (l .in-range) (c .if3 .in-range) (sym in-range ∙ t .0 .left) (t .2))
+      | inl t ↦ t .3 ∙ in-range-there p at (l .is-inside) _ _ (sym there ∙ t .0 .taken) (c .before .before .before .before .before .before .before .before .to-vect3 .ensures) (t .2 .ensures)
+      | inr t ↦ t .1 ∙ out-of-range p at (l .is-inside) (sym there ∙ t .0 .left)
     ]
     in
-    passing-turn (l .inv) (room _ _ e few) (room _ _ d few) (search needs) _ _ (goes-on .0) (goes-on .1)
+    passing-turn (l .inv) (room _ _ e few) (room _ _ d few) (search needs) _ _ goes-on there
 
 decide-requires : tie.Need-decide-requires Inv-loop μ-loop
 decide-requires c κs = search needs
@@ -166,10 +167,11 @@ contains-with-range-count-spec =
     mul-to
     array-copy-out-to
     is-in-lon-range-requires
+    cast-in-range
+    add-in-range
     mul-n
     array-copy-out-n
     dot-product-requires
-    add-in-range
     add-i
     loop-less
     loop-again
