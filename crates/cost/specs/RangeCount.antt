@@ -1,4 +1,5 @@
--- Containment with the number of edges in range.
+-- Containment with the number of edges in range. What `contains` answers is asked of the
+-- point that the check hands back, and so is the number.
 use Prim.Native.Nat.{ℕ}
 use mathlib.Core.Path.{_≡_}
 use Rattle.coo3d.specs.declared.Coo3D.{Coo3D}
