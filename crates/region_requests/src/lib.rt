@@ -1,9 +1,9 @@
 // Requests about the region that is kept: it is built, edited, handed in, and asked about a point.
 use answers::Kept;
 use coo3d::Coo3D;
+use edits::EditAnswer;
 use refusal::Decision;
 use refusal::Outcome;
-use edits::EditAnswer;
 use region::ContainsSouthPoleMethod;
 use region::Region;
 use stream::Buffer;
