@@ -166,6 +166,43 @@ fn region_is_counted() {
     tell::yes_no(region::is_counted(p, from, to, normal));
 }
 
+fn cost_contains_with_range_count() {
+    tell::call(b"cost::contains_with_range_count");
+    let s = square();
+    tell::ranged(cost::contains_with_range_count(s, at(0.0, 0.5, 0.5, 1.5, 0.5)));
+    let south_west = at(0.75, 0.5, -0.25, 0.5, -0.25);
+    let south_east = at(0.25, 0.75, -0.25, 1.5, -0.25);
+    let north_east = at(0.25, 0.75, 0.25, 1.5, 0.25);
+    let north_west = at(0.75, 0.5, 0.25, 0.5, 0.25);
+    let mut corners = [south_west; 64];
+    corners[1] = south_east;
+    corners[2] = north_east;
+    corners[3] = north_west;
+    let built = region::build(corners, 4, ContainsSouthPoleMethod::Default);
+    let box_of_four = built.region;
+    tell::ranged(cost::contains_with_range_count(box_of_four, at(0.5, 0.75, 0.0, 1.0, 0.0)));
+    tell::ranged(cost::contains_with_range_count(box_of_four, at(-0.75, 0.5, 0.0, 2.5, 0.0)));
+    tell::ranged(cost::contains_with_range_count(box_of_four, at(0.5, 0.75, 0.0, 7.0, 0.0)));
+}
+
+fn cost_costliest_outline() {
+    tell::call(b"cost::costliest_outline");
+    let even = cost::costliest_outline(64);
+    let built = even.built;
+    let outline = built.region;
+    tell::built(built);
+    tell::count(region::seam_count(outline));
+    tell::ranged(cost::contains_with_range_count(outline, even.point));
+    let odd = cost::costliest_outline(5);
+    let built_odd = odd.built;
+    tell::built(built_odd);
+    tell::ranged(cost::contains_with_range_count(built_odd.region, odd.point));
+    let none = cost::costliest_outline(0);
+    tell::built(none.built);
+    let many = cost::costliest_outline(65);
+    tell::built(many.built);
+}
+
 fn edits_put() {
     tell::call(b"edits::put");
     let s = square();
@@ -831,6 +868,8 @@ fn main() {
     region_is_in_lon_range();
     region_crosses_seam();
     region_is_counted();
+    cost_contains_with_range_count();
+    cost_costliest_outline();
     edits_put();
     edits_insert();
     edits_remove();

@@ -3,6 +3,7 @@ use cone::ConeAnswer;
 use coo3d::LonLat;
 use coo3d::UnitVect3;
 use coo3d::Vect3;
+use cost::RangedDecision;
 use crossings::AllAnswer;
 use crossings::Crossing;
 use crossings::FirstAnswer;
@@ -114,6 +115,15 @@ pub fn decision(answer: Decision) {
         Decision::No => yes_no(false),
         Decision::Refused(cause) => refused(cause),
     }
+}
+
+// The decision, and the number of edges in range.
+pub fn ranged(answer: RangedDecision) {
+    let decided = answer.decision;
+    decision(decided);
+    say(b"  in range ");
+    say_number(answer.in_range as u64);
+    say(b"\n");
 }
 
 pub fn count(answer: CountAnswer) {
