@@ -2,18 +2,20 @@
 //! The refusals, which upstream does not have, are written here from the scope's table.
 
 mod poles;
+mod ranges;
 mod record;
 mod region_file;
+mod statements;
 
 use std::io::{self, BufWriter, Write};
 use std::process::ExitCode;
 
-use poles::Tried;
 use record::Region;
+use statements::Tried;
 use stream::{
-    answered, bytes_and_rest, read_request, status, within, words_of, write_word, zone_bounds_hold,
-    Call, Next, Outcome, Words, KINDS, MOST_POINTS, PARALLEL_BOUNDS, POINT_BOUNDS, POINT_WORDS,
-    VECTOR_BOUNDS, VECTOR_WORDS,
+    answered, bytes_and_rest, outline, read_request, status, within, words_of, write_word,
+    zone_bounds_hold, Call, Next, Outcome, Words, KINDS, MOST_POINTS, PARALLEL_BOUNDS,
+    POINT_BOUNDS, POINT_WORDS, VECTOR_BOUNDS, VECTOR_WORDS,
 };
 use upstream::sph_geom::cone::Cone;
 use upstream::sph_geom::coo3d::{Coo3D, LonLatT, UnitVect3, Vec3, Vect3};
@@ -73,16 +75,22 @@ fn answer_all() -> io::Result<()> {
         for &word in &answer {
             write_word(&mut out, word)?;
         }
-        try_poles(kind.call, &request, &kept, &mut tried).map_err(io::Error::other)?;
+        try_statements(kind.call, &request, &kept, &mut tried).map_err(io::Error::other)?;
     }
     tried.print();
     out.flush()
 }
 
-/// Where a request has a point and there is a region to ask, its own file's or the one now kept.
-fn try_poles(call: Call, request: &[u64], kept: &Kept, tried: &mut Tried) -> Result<(), String> {
+/// Where a request has a point and there is a region to ask, its own file's or the one now kept,
+/// and where it drew an outline.
+fn try_statements(
+    call: Call,
+    request: &[u64],
+    kept: &Kept,
+    tried: &mut Tried,
+) -> Result<(), String> {
     match call {
-        Call::Contains | Call::Hold | Call::HoldLent => {
+        Call::Contains | Call::RangeCount | Call::Hold | Call::HoldLent => {
             if let (Ok(region), Ok(point)) = (&kept.region, point(request, 0)) {
                 tried.at(region, &point)?;
             }
@@ -94,6 +102,12 @@ fn try_poles(call: Call, request: &[u64], kept: &Kept, tried: &mut Tried) -> Res
             }
             if let (Ok(polygon), Ok(point)) = (region_file::read(&file), point(words, 0)) {
                 tried.at(&Region::read(polygon), &point)?;
+            }
+        }
+        Call::CostliestOutline => {
+            let count = request[0];
+            if let (Ok(region), Ok(())) = (&kept.region, count_fits(count)) {
+                tried.outline(region, count, &coo(outline::ABREAST))?;
             }
         }
         _ => {}
@@ -112,10 +126,13 @@ fn answer_one(call: Call, request: &[u64], kept: &mut Kept, answer: &mut Vec<u64
         Call::Hold | Call::HoldLent => edited(kept)?.hold(request)?,
         Call::Rule => edited(kept)?.rule(request[0], &request[1..])?,
         Call::Region => dump(region(kept)?, answer),
-        Call::Contains => {
+        Call::Contains | Call::RangeCount => {
             let region = region(kept)?;
             let point = point(request, 0)?;
             answer.push(u64::from(region.contains(&point)));
+            if call == Call::RangeCount {
+                answer.push(record::edges_in_range(region, &point));
+            }
         }
         Call::ArcFirst => {
             let region = region(kept)?;
@@ -193,6 +210,10 @@ fn answer_one(call: Call, request: &[u64], kept: &mut Kept, answer: &mut Vec<u64
             kept.region = region_value(request[0], request[1], &request[3..])
                 .map(|polygon| Region::handed_in(polygon, request[2]));
         }
+        Call::CostliestOutline => {
+            kept.region = Ok(Region::built(costliest_outline(request[0])?));
+            answer.extend(outline::ABREAST.map(answered));
+        }
     }
     Ok(())
 }
@@ -207,10 +228,13 @@ fn doubles<const N: usize>(words: &[u64]) -> [f64; N] {
     std::array::from_fn(|i| double(words[i]))
 }
 
+fn coo([x, y, z, lon, lat]: [f64; POINT_WORDS]) -> Coo3D {
+    Coo3D { x, y, z, lon, lat }
+}
+
 /// The point of the first words, unchecked.
 fn given(words: &[u64]) -> Coo3D {
-    let [x, y, z, lon, lat] = doubles(words);
-    Coo3D { x, y, z, lon, lat }
+    coo(doubles(words))
 }
 
 /// The point of the first words, which a refusal names by this index.
@@ -269,6 +293,12 @@ fn build(request: &[u64]) -> Answer<Polygon> {
     let corners = points(count, corners)?;
     let method = record::method(rule, control, count)?;
     Ok(Polygon::new_custom_vec3(corners.into(), &method))
+}
+
+fn costliest_outline(count: u64) -> Answer<Polygon> {
+    count_fits(count)?;
+    let corners = outline::corners().into_iter().take(count as usize);
+    Ok(record::afresh(corners.map(coo).collect(), false))
 }
 
 fn region_value(count: u64, flag: u64, lists: &[u64]) -> Answer<Polygon> {

@@ -62,6 +62,7 @@ impl Kept {
                 let (file, _) = bytes_and_rest(request);
                 *self = Kept::read(&file).unwrap_or_default();
             }
+            Call::CostliestOutline => *self = Kept::outline(request[0]).unwrap_or_default(),
             Call::Put => self.put(request[0], doubles(&request[1..])),
             Call::Insert => self.insert(request[0], doubles(&request[1..])),
             Call::Remove => self.remove(request[0]),

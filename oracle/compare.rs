@@ -145,7 +145,7 @@ impl Tally {
                 }
                 Call::ParallelAll => region.count(request, false, &mut self.cases),
                 Call::SeamCount => region.count_steps(&mut self.steps),
-                Call::Contains => {
+                Call::Contains | Call::RangeCount => {
                     let [x, y, z, _, _]: Point = doubles(request);
                     if x == 0.0 && y == 0.0 && z.abs() == 1.0 {
                         self.poles[usize::from(z > 0.0)][usize::from(answer[1] != 0)] += 1;
@@ -193,7 +193,7 @@ impl Tally {
                 _ => {}
             }
         }
-        if kind.call == Call::Contains {
+        if matches!(kind.call, Call::Contains | Call::RangeCount) {
             for (name, [no, yes]) in ["southern", "northern"].iter().zip(&self.poles) {
                 detail(&format!("at the {name} pole: no {no}, yes {yes}"));
             }
@@ -316,7 +316,8 @@ fn compare(requests: &str, a: &str, b: &str) -> Result<bool, String> {
                 | Call::ParallelAll
                 | Call::IsIntersectingParallel
                 | Call::WriteFile
-                | Call::SeamCount => region.print("the region kept"),
+                | Call::SeamCount
+                | Call::RangeCount => region.print("the region kept"),
                 Call::Build
                 | Call::ReadFile
                 | Call::DoorContains
@@ -325,7 +326,8 @@ fn compare(requests: &str, a: &str, b: &str) -> Result<bool, String> {
                 | Call::ZoneNew
                 | Call::BoundingCone
                 | Call::RegionValue
-                | Call::SeamedValue => {}
+                | Call::SeamedValue
+                | Call::CostliestOutline => {}
             }
             for (side, other) in [(&a, &b), (&b, &a)] {
                 println!("answer in {}:", side.stream.path);
@@ -338,7 +340,11 @@ fn compare(requests: &str, a: &str, b: &str) -> Result<bool, String> {
         let outcome = a.answer[0];
         match kind.call {
             Call::ZoneNew if outcome == status::DONE => zone.set(row, &request),
-            Call::Build | Call::ReadFile | Call::RegionValue | Call::SeamedValue
+            Call::Build
+            | Call::ReadFile
+            | Call::RegionValue
+            | Call::SeamedValue
+            | Call::CostliestOutline
                 if outcome == status::DONE =>
             {
                 region.set(row, &request);

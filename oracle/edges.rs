@@ -2,8 +2,8 @@
 //! table of cases rests on. No answer comes from here.
 
 use stream::{
-    corner_words, file_length, trailer, within, EDITION, MOST_POINTS, POINT_BOUNDS, POINT_WORDS,
-    VECTOR_WORDS,
+    corner_words, file_length, outline, trailer, within, EDITION, MOST_POINTS, POINT_BOUNDS,
+    POINT_WORDS, VECTOR_WORDS,
 };
 
 /// x, y, z, lon, lat.
@@ -57,6 +57,12 @@ impl Kept {
             fits.then(|| entries(&corner_words(file, count as usize)).collect())?;
         let legal = corners.iter().all(|corner| within(corner, &POINT_BOUNDS));
         legal.then(|| Kept::built(corners))
+    }
+
+    /// The outline of so many corners that costs most, where it is not refused.
+    pub fn outline(count: u64) -> Option<Self> {
+        let fits = (1..=MOST_POINTS).contains(&count);
+        fits.then(|| Kept::built(outline::corners()[..count as usize].to_vec()))
     }
 
     pub fn put(&mut self, index: u64, corner: Point) {

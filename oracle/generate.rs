@@ -3,30 +3,33 @@
 //!
 //! Of a hundred requests outside a list (`CALL_SHARES`)
 //!
-//! - 12 are builds, 8 files to read and 6 region values, 4 of them with a seam count, often a wrong
-//!   one; after every second one the region is asked for besides (`REGION_SHARE`), after every
-//!   fourth its seam count (`SEAM_SHARE`), after every eighth its file (`WRITE_SHARE`), and after
+//! - 12 are builds, 8 files to read, 6 region values, 4 of them with a seam count, often a wrong
+//!   one, and 2 outlines that cost most; after every second one the region is asked for besides
+//!   (`REGION_SHARE`), after every fourth its seam count (`SEAM_SHARE`), after every eighth its file
+//!   (`WRITE_SHARE`), after an outline whether points are contained (`AFTER_OUTLINE`), and after
 //!   some a list of edits begins (`LIST_AFTER_BUILD`, `LIST_AFTER_FULL_BUILD`, `LIST_AFTER_READ`,
-//!   `LIST_AFTER_VALUE`), so that about six requests of ten stand in lists;
+//!   `LIST_AFTER_VALUE`, `LIST_AFTER_OUTLINE`), so that about six requests of ten stand in lists;
 //! - 3 ask for the region's seam count, and 3 for its file;
 //! - 14 are C doors: 7 contains, 7 hold;
-//! - 7 ask whether a point is contained;
+//! - 9 ask whether a point is contained, 4 of them with the number of edges in range;
 //! - 12 are arcs: 5 first, 5 all, 2 is intersecting;
-//! - 5 are great circles;
-//! - 13 are parallels: 5 first, 6 all, 2 is intersecting;
-//! - 5 are roots, 4 new zones, 4 questions to the zone kept and 4 bounding cones.
+//! - 4 are great circles;
+//! - 12 are parallels: 5 first, 5 all, 2 is intersecting;
+//! - 4 are roots, 4 new zones, 4 questions to the zone kept and 3 bounding cones.
 //!
 //! A list has 1 to 200 edits, whose shares stand in edits.rs. Of a hundred requests in it 40 are
-//! questions to the region (`QUESTION_SHARE`): 9 ask for the region, 5 for its seam count, 8
-//! whether a point is contained, 14 are arcs, great circles and parallels, 4 ask for its file; and of a
-//! thousand 4 are files to read (`QUESTION_SHARES`).
+//! questions to the region (`QUESTION_SHARE`): 8 ask for the region, 4 for its seam count, 10
+//! whether a point is contained, 4 of them with the number of edges in range, 14 are arcs, great
+//! circles and parallels, 4 ask for its file; and of a thousand 4 are files to read
+//! (`QUESTION_SHARES`).
 //!
 //! In a run of lists each starts from a build that is not refused or, 18 of a hundred, from a value
-//! or, 15, from a file that is not refused (`START_SHARES`). What is asked after an edit stands in
-//! `AFTER_EDIT`.
+//! or, 15, from a file that is not refused or, 7, from an outline that costs most
+//! (`START_SHARES`). What is asked after an edit stands in `AFTER_EDIT`.
 //!
 //! Each question and each edit is asked once at the start, before there is a region or a zone. From
-//! then on it is aimed at the region that the builds, values and edits so far have left.
+//! then on it is aimed at the region that the builds, values and edits so far have left, and where
+//! that began as an outline often at the outline's own point (`OWN_POINT_SHARE`).
 //!
 //! Of a hundred requests of each kind (`CLASS_SHARES`)
 //!
@@ -38,8 +41,8 @@
 //!   few others come past the tests of the domain.
 //!
 //! Region values and files have shares of their own (`VALUE_CLASS_SHARES`, `FILE_CLASS_SHARES`).
-//! How many points there are is drawn by `CONE_SHARES`, `CORNER_SHARES`, `VALUE_SHARES` and
-//! `FILE_SHARES`; besides, one cone or build in `LONG_ONE_IN` has up to 4,096.
+//! How many points there are is drawn by `CONE_SHARES`, `CORNER_SHARES`, `VALUE_SHARES`,
+//! `FILE_SHARES` and `OUTLINE_SHARES`; besides, one cone or build in `LONG_ONE_IN` has up to 4,096.
 
 mod draw;
 mod edges;
@@ -54,12 +57,12 @@ use std::io::{self, BufWriter, Write};
 use std::process::ExitCode;
 
 use draw::{stepped, Class, Draw, LARGEST_SUBNORMAL, RAISED_NORTH, SMALLEST, SPECIAL};
-use edges::Kept;
+use edges::{Kept, Point};
 use edits::List;
 use points::{point_count, points, CountShare};
-use regions::{build, region_value, Build};
+use regions::{build, outline_count, region_value, Build};
 use stream::{
-    within, words_of, write_word, zone_bounds_hold, Call, EDITS, HALF_PI, MOST_POINTS,
+    outline, within, words_of, write_word, zone_bounds_hold, Call, EDITS, HALF_PI, MOST_POINTS,
     POINT_BOUNDS, TWO_PI,
 };
 
@@ -70,34 +73,37 @@ const CLASS_SHARES: [(Class, u64); 4] = [
     (Class::Raw, 10),
 ];
 
-const CALL_SHARES: [(Call, u64); 20] = [
+const CALL_SHARES: [(Call, u64); 22] = [
     (Call::Build, 12),
     (Call::RegionValue, 2),
     (Call::SeamedValue, 4),
+    (Call::CostliestOutline, 2),
     (Call::SeamCount, 3),
-    (Call::Contains, 7),
+    (Call::Contains, 5),
+    (Call::RangeCount, 4),
     (Call::ArcFirst, 5),
     (Call::ArcAll, 5),
     (Call::IsIntersectingArc, 2),
-    (Call::GreatCircleAll, 5),
+    (Call::GreatCircleAll, 4),
     (Call::ParallelFirst, 5),
-    (Call::ParallelAll, 6),
+    (Call::ParallelAll, 5),
     (Call::IsIntersectingParallel, 2),
     (Call::WriteFile, 3),
     (Call::ReadFile, 8),
     (Call::DoorContains, 7),
     (Call::DoorHold, 7),
-    (Call::Root, 5),
+    (Call::Root, 4),
     (Call::ZoneNew, 4),
     (Call::ZoneRest, 4),
-    (Call::BoundingCone, 4),
+    (Call::BoundingCone, 3),
 ];
 
 /// Asked before there is a zone or a region, as are the edits.
-const FIRST_CALLS: [Call; 12] = [
+const FIRST_CALLS: [Call; 13] = [
     Call::Region,
     Call::SeamCount,
     Call::Contains,
+    Call::RangeCount,
     Call::ArcFirst,
     Call::ArcAll,
     Call::IsIntersectingArc,
@@ -109,7 +115,8 @@ const FIRST_CALLS: [Call; 12] = [
     Call::ZoneRest,
 ];
 
-/// Of a hundred builds, files read and region values after how many the region is asked for.
+/// Of a hundred builds, files read, region values and outlines after how many the region is asked
+/// for.
 const REGION_SHARE: u64 = 50;
 
 /// The same of the region's file, and of its seam count.
@@ -128,14 +135,28 @@ const LIST_AFTER_READ: u64 = 9;
 /// The same of region values.
 const LIST_AFTER_VALUE: u64 = 27;
 
+/// The same of outlines that cost most.
+const LIST_AFTER_OUTLINE: u64 = 25;
+
+/// Of a hundred such outlines after how many each of these is asked besides.
+const AFTER_OUTLINE: [(Call, u64); 3] = [
+    (Call::RangeCount, 60),
+    (Call::RangeCount, 40),
+    (Call::Contains, 40),
+];
+
+/// While such an outline is kept, edited or not, how many points of a hundred are its own one.
+const OWN_POINT_SHARE: u64 = 40;
+
 /// Of a hundred requests in a list how many are questions.
 const QUESTION_SHARE: u64 = 40;
 
 /// A file that is read puts its region in the place of the one edited so far.
-const QUESTION_SHARES: [(Call, u64); 12] = [
-    (Call::Region, 22),
-    (Call::SeamCount, 12),
-    (Call::Contains, 20),
+const QUESTION_SHARES: [(Call, u64); 13] = [
+    (Call::Region, 20),
+    (Call::SeamCount, 10),
+    (Call::Contains, 14),
+    (Call::RangeCount, 10),
     (Call::ArcFirst, 5),
     (Call::ArcAll, 6),
     (Call::IsIntersectingArc, 3),
@@ -150,18 +171,20 @@ const QUESTION_SHARES: [(Call, u64); 12] = [
 // A run of lists of edits has its own shares.
 
 /// Of a hundred lists how many start from what.
-const START_SHARES: [(Call, u64); 4] = [
-    (Call::Build, 67),
+const START_SHARES: [(Call, u64); 5] = [
+    (Call::Build, 60),
     (Call::RegionValue, 3),
     (Call::SeamedValue, 15),
     (Call::ReadFile, 15),
+    (Call::CostliestOutline, 7),
 ];
 
 /// Of a hundred edits after how many each of these is asked.
-const AFTER_EDIT: [(Call, u64); 4] = [
+const AFTER_EDIT: [(Call, u64); 5] = [
     (Call::Region, 25),
     (Call::SeamCount, 25),
-    (Call::Contains, 25),
+    (Call::Contains, 15),
+    (Call::RangeCount, 15),
     (Call::WriteFile, 3),
 ];
 
@@ -511,15 +534,13 @@ fn main() -> ExitCode {
         .iter()
         .map_while(|argument| argument.parse().ok())
         .collect();
-    let [seed, count] = numbers.as_slice() else {
-        eprintln!("usage: generate SEED COUNT, or generate SEED COUNT edits");
-        return ExitCode::from(2);
-    };
-    let mut run = Run::new(*seed);
-    let written = if lists {
-        run.lists(*count)
-    } else {
-        run.requests(*count)
+    let written = match numbers.as_slice() {
+        [seed, count] if lists => Run::new(*seed).lists(*count),
+        [seed, count] => Run::new(*seed).requests(*count),
+        _ => {
+            eprintln!("usage: generate SEED COUNT, or generate SEED COUNT edits");
+            return ExitCode::from(2);
+        }
     };
     match written {
         Ok(()) => ExitCode::SUCCESS,
@@ -536,6 +557,8 @@ struct Run {
     draw: Draw,
     zone: Bounds,
     region: Kept,
+    /// The point of the outline that the region kept began as, where it was one that costs most.
+    own_point: Option<Point>,
 }
 
 impl Run {
@@ -547,6 +570,7 @@ impl Run {
             // told.
             zone: [1.0, -0.5, 2.0, 0.5],
             region: Kept::built(points(&mut draw, Class::Good, 4)),
+            own_point: None,
             draw,
         }
     }
@@ -570,9 +594,15 @@ impl Run {
                 Call::Build => LIST_AFTER_BUILD,
                 Call::ReadFile => LIST_AFTER_READ,
                 Call::RegionValue | Call::SeamedValue => LIST_AFTER_VALUE,
+                Call::CostliestOutline => LIST_AFTER_OUTLINE,
                 _ => continue,
             };
             let draw = &mut self.draw;
+            if call == Call::CostliestOutline {
+                for (question, share) in AFTER_OUTLINE {
+                    due.extend(draw.percent(share).then_some(question));
+                }
+            }
             due.extend(draw.percent(REGION_SHARE).then_some(Call::Region));
             due.extend(draw.percent(WRITE_SHARE).then_some(Call::WriteFile));
             due.extend(draw.percent(SEAM_SHARE).then_some(Call::SeamCount));
@@ -596,6 +626,11 @@ impl Run {
                     let file = self.file_not_refused();
                     write_word(&mut self.out, Call::ReadFile as u64)?;
                     self.write_read(&file)?;
+                }
+                Call::CostliestOutline => {
+                    let count = self.draw.whole(1, MOST_POINTS);
+                    write_word(&mut self.out, Call::CostliestOutline as u64)?;
+                    self.write_outline(count)?;
                 }
                 value => self.request(value)?,
             }
@@ -640,6 +675,7 @@ impl Run {
             draw,
             zone: zone_kept,
             region,
+            own_point,
         } = self;
         match call {
             Call::Build => {
@@ -669,8 +705,12 @@ impl Run {
                 write_word(out, rule)?;
                 write(out, &control)?;
             }
-            Call::Hold | Call::HoldLent | Call::Contains => {
-                write(out, &queries::point(draw, class, region))?;
+            Call::Hold | Call::HoldLent | Call::Contains | Call::RangeCount => {
+                let point = match own_point {
+                    Some(own_point) if draw.percent(OWN_POINT_SHARE) => *own_point,
+                    _ => queries::point(draw, class, region),
+                };
+                write(out, &point)?;
             }
             Call::ArcFirst | Call::ArcAll | Call::IsIntersectingArc => {
                 write_all(out, &queries::arc(draw, class, region))?;
@@ -717,10 +757,19 @@ impl Run {
                 }
                 write_all(out, &value.corners)?;
                 write_all(out, &value.normals)?;
-                *region = value.kept();
+                self.keep(value.kept());
+            }
+            Call::CostliestOutline => {
+                let count = outline_count(draw);
+                self.write_outline(count)?;
             }
         }
         Ok(())
+    }
+
+    fn keep(&mut self, region: Kept) {
+        self.region = region;
+        self.own_point = None;
     }
 
     fn write_build(&mut self, build: Build) -> io::Result<()> {
@@ -729,7 +778,7 @@ impl Run {
         write(&mut self.out, &build.control)?;
         write_all(&mut self.out, &build.corners)?;
         if let Some(kept) = build.kept() {
-            self.region = kept;
+            self.keep(kept);
         }
         Ok(())
     }
@@ -737,7 +786,16 @@ impl Run {
     fn write_read(&mut self, file: &[u8]) -> io::Result<()> {
         write_bytes(&mut self.out, file)?;
         if let Some(kept) = Kept::read(file) {
-            self.region = kept;
+            self.keep(kept);
+        }
+        Ok(())
+    }
+
+    fn write_outline(&mut self, count: u64) -> io::Result<()> {
+        write_word(&mut self.out, count)?;
+        if let Some(kept) = Kept::outline(count) {
+            self.keep(kept);
+            self.own_point = Some(outline::ABREAST);
         }
         Ok(())
     }

@@ -1,12 +1,10 @@
-//! What a made region's seam count says of its poles, tried on upstream's own answers. A value
-//! handed in, and what edits leave of one, may say otherwise.
+//! What a made region's seam count says of its poles. A value handed in, and what edits leave of
+//! one, may say otherwise.
 
-use stream::describe_fields;
 use upstream::sph_geom::coo3d::{Coo3D, Vec3};
-use upstream::sph_geom::{is_in_lon_range, Polygon};
 
-use crate::fields;
-use crate::record::{ends, Region};
+use crate::record::{edges_in_range, ends, Region};
+use crate::statements::{fails, listed, WAYS};
 
 const STATEMENTS: [&str; 4] = [
     "the number of edges in range is odd exactly when the seam count is",
@@ -15,9 +13,6 @@ const STATEMENTS: [&str; 4] = [
      and seam count odd holds",
     "so it is where every edge has a normal with z above 0 or joins equal longitudes",
 ];
-
-/// By the order of `Way`.
-const WAYS: [&str; 3] = ["built", "read", "edited"];
 
 /// Flag and seam count, by twice the one and whether the other is odd.
 const KINDS: [&str; 4] = [
@@ -43,7 +38,6 @@ struct Times {
 pub struct Tried([Times; STATEMENTS.len()]);
 
 impl Tried {
-    /// Tries them at the longitude and latitude of a legal point.
     pub fn at(&mut self, region: &Region, point: &Coo3D) -> Result<(), String> {
         let Some(way) = region.way() else {
             return Ok(());
@@ -74,14 +68,13 @@ impl Tried {
                     times.by_way[way as usize] += 1;
                     times.by_kind[2 * usize::from(flag) + usize::from(odd)] += 1;
                 }
-                Some(false) => return Err(fails(index, region, point)),
+                Some(false) => return Err(fails("pole", &STATEMENTS, index, region, point)),
                 None => times.left_out += 1,
             }
         }
         Ok(())
     }
 
-    /// The form of these lines is what tests/differential looks for.
     pub fn print(&self) {
         for (number, times) in (1..).zip(&self.0) {
             let ways = listed(&WAYS, &times.by_way);
@@ -90,49 +83,4 @@ impl Tried {
             eprintln!("pole statement {number}: {ways}; {kinds}; left out {left_out}");
         }
     }
-}
-
-fn listed(names: &[&str], times: &[u64]) -> String {
-    let parts: Vec<String> = names
-        .iter()
-        .zip(times)
-        .map(|(name, times)| format!("{name} {times}"))
-        .collect();
-    parts.join(", ")
-}
-
-fn edges_in_range(polygon: &Polygon, point: &Coo3D) -> usize {
-    ends(polygon)
-        .filter(|(start, end)| is_in_lon_range(point, *start, *end))
-        .count()
-}
-
-fn fails(index: usize, region: &Region, point: &Coo3D) -> String {
-    let Region {
-        polygon,
-        seam_count,
-        ..
-    } = region;
-    let mut lines = vec![
-        format!("pole statement {} fails: {}", index + 1, STATEMENTS[index]),
-        format!("at the longitude and latitude of {}", described(point)),
-        format!("flag = {}", u8::from(polygon.contains_south_pole)),
-        format!("seam count = {seam_count}"),
-        format!("edges in range = {}", edges_in_range(polygon, point)),
-    ];
-    for (index, (corner, normal)) in polygon
-        .vertices
-        .iter()
-        .zip(&polygon.cross_products)
-        .enumerate()
-    {
-        let z = normal.z();
-        let corner = described(corner);
-        lines.push(format!("corner {index}: {corner}; z of the normal = {z:?}"));
-    }
-    lines.join("\n  ")
-}
-
-fn described(point: &Coo3D) -> String {
-    describe_fields(&fields(point))
 }

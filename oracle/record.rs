@@ -1,15 +1,17 @@
 //! The region that answer keeps, and its edits.
 //!
-//! A region that was made, by a build or from a file and by edits of it, is the plain record: of
-//! each edit only the corners and the flag that it leaves are taken on, and upstream builds them
-//! afresh. A value handed in may have normals that no build gives, so it is edited as it stands,
-//! and only the edges that an edit brings in are worked out.
+//! A region that was made, by a build, as an outline or from a file and by edits of it, is the plain
+//! record: of each edit only the corners and the flag that it leaves are taken on, and upstream
+//! builds them afresh. A value handed in may have normals that no build gives, so it is edited as it
+//! stands, and only the edges that an edit brings in are worked out.
 
 use std::f64::consts::PI;
 
 use stream::{status, CONTROL_POINT_IN, MOST_POINTS};
 use upstream::sph_geom::coo3d::{cross_product, Coo3D, Vec3, Vect3};
-use upstream::sph_geom::{ContainsSouthPoleComputer, ContainsSouthPoleMethod, Polygon};
+use upstream::sph_geom::{
+    is_in_lon_range, ContainsSouthPoleComputer, ContainsSouthPoleMethod, Polygon,
+};
 
 use crate::{point, Answer, Refusal};
 
@@ -68,7 +70,7 @@ impl Region {
         }
     }
 
-    fn count(&self) -> u64 {
+    pub fn count(&self) -> u64 {
         self.polygon.vertices.len() as u64
     }
 
@@ -184,6 +186,12 @@ pub fn afresh(corners: Vec<Coo3D>, flag: bool) -> Polygon {
 fn seam_count(polygon: &Polygon) -> u64 {
     let steps = ends(polygon).map(|(start, end)| (end.lon - start.lon).abs());
     steps.filter(|&step| step > PI).count() as u64
+}
+
+/// How many edges upstream takes to be in range at a point.
+pub fn edges_in_range(polygon: &Polygon, point: &Coo3D) -> u64 {
+    let in_range = |(start, end): &(&Coo3D, &Coo3D)| is_in_lon_range(point, *start, *end);
+    ends(polygon).filter(in_range).count() as u64
 }
 
 /// Each edge's start and end.

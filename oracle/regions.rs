@@ -44,6 +44,19 @@ const VALUE_SHARES: [CountShare; 11] = [
     ((u64::MAX, u64::MAX), 10),
 ];
 
+/// How many corners an outline that costs most is to have, and counts that are refused.
+const OUTLINE_SHARES: [CountShare; 8] = [
+    ((0, 0), 40),
+    ((1, MOST_POINTS), 830),
+    ((65, 65), 40),
+    // Cut down to 8 or to 32 bits they are legal.
+    ((256 + 1, 256 + MOST_POINTS), 20),
+    (((1 << 32) + 1, (1 << 32) + MOST_POINTS), 20),
+    ((1 << 63, 1 << 63), 15),
+    ((u64::MAX, u64::MAX), 15),
+    ((66, u64::MAX), 20),
+];
+
 /// Of a hundred builds how many by each rule.
 const RULE_SHARES: [(u64, u64); 6] = [(0, 25), (1, 20), (2, 10), (3, 10), (4, 18), (5, 17)];
 
@@ -444,6 +457,12 @@ fn half_turn(draw: &mut Draw, from: f64) -> f64 {
         .map(|steps| stepped(about, steps))
         .find(|lon| (lon - from).abs() == size)
         .unwrap_or(about)
+}
+
+/// A number of corners for the outline that costs most.
+pub fn outline_count(draw: &mut Draw) -> u64 {
+    let (least, greatest) = draw.by_share(&OUTLINE_SHARES);
+    draw.whole(least, greatest)
 }
 
 // Region values

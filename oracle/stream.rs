@@ -1,8 +1,11 @@
 //! What the programs share: the two streams of 64-bit little-endian words, the table of requests,
-//! the refusals and the bounds that the scope sets, and the layout of the region file.
+//! the refusals and the bounds that the scope sets, the layout of the region file and the outline
+//! that costs most.
 //!
 //! A further request is a case of `Call` and a row of `KINDS`, with a case of `Part` where its
 //! words are laid out as no other request's are; the compiler then asks for its answer.
+
+pub mod outline;
 
 use std::f64::consts::PI;
 use std::io::{self, Read, Write};
@@ -142,6 +145,8 @@ pub enum Call {
     RegionValue = 26,
     SeamCount = 27,
     SeamedValue = 28,
+    RangeCount = 30,
+    CostliestOutline = 31,
 }
 
 /// The calls that change the region kept; a refused one leaves it.
@@ -501,6 +506,20 @@ pub const KINDS: &[Kind] = &[
         ],
         outcome: Outcome::Status,
         answer: &[],
+    },
+    Kind {
+        call: Call::RangeCount,
+        name: "contains, edges in range",
+        request: POINT,
+        outcome: Outcome::Status,
+        answer: &[Part::YesNo("contains"), Part::Tally("edges in range")],
+    },
+    Kind {
+        call: Call::CostliestOutline,
+        name: "the outline that costs most",
+        request: &[Part::Number("n")],
+        outcome: Outcome::Status,
+        answer: POINT,
     },
 ];
 
