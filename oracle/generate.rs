@@ -1,5 +1,6 @@
 //! generate SEED COUNT: writes COUNT requests to standard output, the same ones for the same seed.
 //! generate SEED COUNT edits: writes COUNT lists of edits instead, each with what it starts from.
+//! generate fixed: writes the requests of the fixed list that are not drawn (fixed.rs).
 //!
 //! Of a hundred requests outside a list (`CALL_SHARES`)
 //!
@@ -48,6 +49,7 @@ mod draw;
 mod edges;
 mod edits;
 mod files;
+mod fixed;
 mod points;
 mod queries;
 mod regions;
@@ -534,11 +536,12 @@ fn main() -> ExitCode {
         .iter()
         .map_while(|argument| argument.parse().ok())
         .collect();
-    let written = match numbers.as_slice() {
-        [seed, count] if lists => Run::new(*seed).lists(*count),
-        [seed, count] => Run::new(*seed).requests(*count),
+    let written = match (arguments.as_slice(), numbers.as_slice()) {
+        ([only], _) if only == "fixed" => fixed::requests(&mut BufWriter::new(io::stdout().lock())),
+        (_, [seed, count]) if lists => Run::new(*seed).lists(*count),
+        (_, [seed, count]) => Run::new(*seed).requests(*count),
         _ => {
-            eprintln!("usage: generate SEED COUNT, or generate SEED COUNT edits");
+            eprintln!("usage: generate SEED COUNT, generate SEED COUNT edits, or generate fixed");
             return ExitCode::from(2);
         }
     };
