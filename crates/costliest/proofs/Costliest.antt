@@ -90,10 +90,10 @@ costliest n one few o h =
       legal = subst (λ (p : Coo3D). inDomain p ≡ true) (sym (h .point)) abreast-in;
       even = λ e a g. at-even (a .«in_range») n (isOdd n) e (at a g);
       odd = λ e a g. at-odd (a .«in_range») n (isOdd n) e (at a g);
-      most = λ s m c e p b g a k.
+      most = λ s m c p b g a k.
           at-most-both (b .«in_range») (a .«in_range») n (isOdd n)
           (subst (λ (x : ℕ). b .«in_range» ≤ x) c (at-most s p b g))
-          (λ o. subst (λ (x : ℕ). b .«in_range» ≤ x - 1) c (odd-at-most s m (ap isOdd c ∙ o) e p b g))
+          (λ o. subst (λ (x : ℕ). b .«in_range» ≤ x - 1) c (odd-at-most s m (ap isOdd c ∙ o) p b g))
           (at a k)
           one;
     }

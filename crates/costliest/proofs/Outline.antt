@@ -23,7 +23,6 @@ use Rattle.lists.proofs.All.{All, none, more, all-both, all-take, all-last, eve
 use Rattle.lists.proofs.Alternating.{alternates-take, closed-steps}
 use Rattle.lists.proofs.Many.{many-same}
 use Rattle.lists.proofs.Odd.{changes, false-one}
-use Rattle.poles.proofs.Normals.{Corner, corner-of}
 use Rattle.refusal.specs.Answer.{answered}
 use Rattle.region.specs.Edges.{Edge, edge, crossesSeam, isInRange}
 use Rattle.region.specs.View.{nowhere, seamsFrom, seamsOf, edgesOf, made, inRangeCount}
@@ -32,6 +31,7 @@ use Rattle.region.proofs.Drawn.{many-drawn, each-drawn}
 use Rattle.region.proofs.Flags.{flag-fixed}
 use Rattle.region.proofs.InRange.{in-range-is}
 use Rattle.region.proofs.Rules.{some}
+use Rattle.costliest.proofs.Numbers.{Placed, placed}
 
 settled : All Settled saw
 settled = all-both (λ c. inDomain c ≡ true) (λ c. inDomain c ≡ true) Settled (λ c. λ h. λ k. settled-in c h) (every-each inDomain saw saw-in) (every-each inDomain saw saw-in)
@@ -74,28 +74,28 @@ module _ (n : ℕ) (one : 0 < n) (few : n ≤ 64) where
 
   -- ---- the edges in range: those that change sides
 
-  abbrev Placed : Coo3D → Type 0
-  Placed c = Corner c × Lies c
+  abbrev At : Coo3D → Type 0
+  At c = Placed c × Lies c
 
-  placed : All Placed corners
-  placed =
-      all-both Corner Lies Placed (λ c. λ h. λ k. (h, k))
-      (all-both Settled (λ c. ofDoubles c ≡ true) Corner corner-of (all-take n settled) (all-take n (each-double saw saw-doubles)))
+  each-at : All At corners
+  each-at =
+      all-both Placed Lies At (λ c. λ h. λ k. (h, k))
+      (all-both Settled (λ c. ofDoubles c ≡ true) Placed placed (all-take n settled) (all-take n (each-double saw saw-doubles)))
       (all-take n saw-lies)
 
   abbrev turns : Edge → Bool
   turns e = changes isEastward (e .from) (e .to)
 
-  by-side : (a b : Coo3D) → Placed a → Placed b → isInRange abreast (edge a b) ≡ turns (edge a b)
+  by-side : (a b : Coo3D) → At a → At b → isInRange abreast (edge a b) ≡ turns (edge a b)
   by-side a b (p, k) (q, l) =
-      in-range-is (abreast .lon) (a .lon) (b .lon) (p .lon) (q .lon) (p .held) (q .held)
+      in-range-is (abreast .lon) (a .lon) (b .lon) (p .0 .finite) (q .0 .finite) (p .1) (q .1)
       ∙ ap (λ (x : Bool). exactlyOne x (changes isEastward a b)) (never-crosses a b k l)
       ∙ false-one (changes isEastward a b)
 
   pub in-range : inRangeCount abreast (made corners false) + cond (isOdd n) 1 0 ≡ n
   unfolding inRangeCount
   in-range =
-      ap (λ (k : ℕ). k + cond (isOdd n) 1 0) (many-same (isInRange abreast) turns (each-drawn Placed (λ e. isInRange abreast e ≡ turns e) by-side false placed) ∙ many-drawn turns corners false)
+      ap (λ (k : ℕ). k + cond (isOdd n) 1 0) (many-same (isInRange abreast) turns (each-drawn At (λ e. isInRange abreast e ≡ turns e) by-side false each-at) ∙ many-drawn turns corners false)
       ∙ ap (λ (k : ℕ). howMany (λ b. b) (along (changes isEastward) (lastOf nowhere corners) corners) + cond (isOdd k) 1 0) (sym corners-length)
       ∙ closed-steps isEastward nowhere (alternates-take isEastward n saw-alternates)
       ∙ corners-length

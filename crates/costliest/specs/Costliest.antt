@@ -1,4 +1,5 @@
--- How many edges are in range at most, and an outline that has as many. The theorems speak of whatever answers meet the calls' contracts.
+-- How many edges are in range at most, and an outline that has as many. The theorems speak of whatever answers
+-- meet the calls' contracts.
 use Prim.Native.Nat.{ℕ, _-_, _≤_}
 use mathlib.Core.Path.{_≡_}
 use mathlib.Core.Bool.{true, false}
@@ -20,13 +21,13 @@ use Rattle.region.specs.View.{viewOf}
 abbrev pub AtPoint : Region → Coo3D → (ℕ → Type 0) → Type 0
 AtPoint r p Holds = (a : RangedDecision) → Ranged a (viewOf r) p → Holds (a .«in_range»)
 
--- whatever a region is made of, no more edges are in range at a point than it has corners
+-- whatever a region's fields are, no more edges are in range at a point than it has corners
 abbrev pub AtMost : Region → Type 0
 AtMost r = (p : Coo3D) → AtPoint r p (λ k. k ≤ r .count)
 
--- at least one is not in range where the corners are odd in number and the seam count is even
+-- for made regions: at least one is not in range where the corners are odd in number, whatever the seam count is
 abbrev pub OddAtMost : Region → Type 0
-OddAtMost r = isOdd (r .count) ≡ true → isOdd (r .«seam_count») ≡ false → (p : Coo3D) → AtPoint r p (λ k. k ≤ r .count - 1)
+OddAtMost r = isOdd (r .count) ≡ true → (p : Coo3D) → AtPoint r p (λ k. k ≤ r .count - 1)
 
 -- the outline of n corners, and its point
 pub record Costliest (n : ℕ) (o : CostliestOutline) : Type 0 where
@@ -40,5 +41,5 @@ pub record Costliest (n : ℕ) (o : CostliestOutline) : Type 0 where
   pub legal : inDomain (o .point) ≡ true
   pub even : isOdd n ≡ false → AtPoint (o .built .region) (o .point) (λ k. k ≡ n)
   pub odd : isOdd n ≡ true → AtPoint (o .built .region) (o .point) (λ k. k ≡ n - 1)
-  -- no made region of n corners with an even seam count has more of them in range anywhere
-  pub most : (r : Region) → Made r → r .count ≡ n → isOdd (r .«seam_count») ≡ false → (p : Coo3D) → AtPoint r p (λ k. AtPoint (o .built .region) (o .point) (λ m. k ≤ m))
+  -- no made region of n corners has more edges in range anywhere: its number at any point, k, is at most the outline's, m
+  pub most : (r : Region) → Made r → r .count ≡ n → (p : Coo3D) → AtPoint r p (λ k. AtPoint (o .built .region) (o .point) (λ m. k ≤ m))

@@ -91,7 +91,7 @@ pub back-same : {ps qs : List Coo3D} → HandedBack ps qs → qs ≡ ps
 back-same back-none = refl
 back-same (back-more {p = p} {q = q} i e t) = rw (handed-same i p q e, back-same t)
 
--- ---- a point of the domain is finite, and has its place from -2 to 2
+-- ---- a point of the domain is finite, has its place from -2 to 2, and a longitude from 0 to TWO_PI
 
 pub record Finite (p : Coo3D) : Type 0 where
   pub x : isFinite (p .x) ≡ true
@@ -104,6 +104,7 @@ pub record Placed (p : Coo3D) : Type 0 where
   pub x : inclusive (neg two) (p .x) two ≡ true
   pub y : inclusive (neg two) (p .y) two ≡ true
   pub z : inclusive (neg two) (p .z) two ≡ true
+  pub lon : inclusive nought (p .lon) twoPi ≡ true
 
 inside-parts : (p : Coo3D) → inDomain p ≡ true → Finite p × Placed p
 unfolding inDomain
@@ -114,14 +115,15 @@ inside-parts p h =
     let in-y = inclusive (neg two) (p .y) two in
     let in-z = inclusive (neg two) (p .z) two in
     let v = in-x && in-y && in-z in
-    let a = both f v ((both (f && v) (inclusive nought (p .lon) twoPi) ((both (f && v && inclusive nought (p .lon) twoPi) (inclusive (neg halfPi) (p .lat) halfPi) h) .0)) .0) in
+    let l = both (f && v) (inclusive nought (p .lon) twoPi) ((both (f && v && inclusive nought (p .lon) twoPi) (inclusive (neg halfPi) (p .lat) halfPi) h) .0) in
+    let a = both f v (l .0) in
     let b = both (xy && isFinite (p .z) && isFinite (p .lon)) (isFinite (p .lat)) (a .0) in
     let c = both (xy && isFinite (p .z)) (isFinite (p .lon)) (b .0) in
     let d = both xy (isFinite (p .z)) (c .0) in
     let e = both (isFinite (p .x)) (isFinite (p .y)) (d .0) in
     let g = both (in-x && in-y) in-z (a .1) in
     let k = both in-x in-y (g .0) in
-    (record { x = e .0; y = e .1; z = d .1; lon = c .1; lat = b .1 }, record { x = k .0; y = k .1; z = g .1 })
+    (record { x = e .0; y = e .1; z = d .1; lon = c .1; lat = b .1 }, record { x = k .0; y = k .1; z = g .1; lon = l .1 })
 
 pub finite-inside : (p : Coo3D) → inDomain p ≡ true → Finite p
 finite-inside p h = inside-parts p h .0

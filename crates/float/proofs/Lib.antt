@@ -7,3 +7,4 @@ pub mod Ordered
 pub mod Products
 pub mod Signs
 pub mod Small
+pub mod Steps

@@ -2,7 +2,7 @@
 use Prim.Native.Nat.{ℕ, _+_, _≤_}
 use native.Mathlib.Omega.{arith}
 use mathlib.Core.Path.{_≡_, refl, ap}
-use mathlib.Core.Bool.{Bool, true, false, cond}
+use mathlib.Core.Bool.{Bool, true, false, cond, false≢true}
 use mathlib.Core.List.{List, [], _∷_, map}
 use lib.ListN.{length}
 use Rattle.lists.specs.Counts.{howMany}
@@ -38,3 +38,14 @@ pub many-same : {A : Type 0} (f g : A → Bool) {l : List A} → All (λ a. f a 
 unfolding howMany
 many-same f g none = refl
 many-same f g (more h t) = rw (h, many-same f g t)
+
+-- no more have a property than one that it implies
+pub many-fewer : {A : Type 0} (f g : A → Bool) {l : List A} → All (λ a. f a ≡ true → g a ≡ true) l → howMany f l ≤ howMany g l
+unfolding howMany
+many-fewer f g none = omega arith
+many-fewer f g (more {a = a} {l = l} h t) = omega (arith, fewer (f a) (g a) h, many-fewer f g t)
+  where
+    fewer : (x y : Bool) → (x ≡ true → y ≡ true) → cond x 1 0 ≤ cond y 1 0
+    fewer true true k = omega arith
+    fewer true false k = absurd (false≢true (k refl))
+    fewer false y k = omega arith

@@ -63,7 +63,7 @@ module _ (v : View) (m : IsMade v) where
   in-range-seams : (q : Coo3D) → oddMany (isInRange q) (edgesOf v) ≡ isOdd (v .seamCount)
   in-range-seams q = edges-are (isInRange q) ∙ in-range-odd q (v .flag) corners ∙ ap isOdd (sym (seams-made v m))
 
-  pub in-range-number : (q : Coo3D) → isOdd (inRangeCount q v) ≡ isOdd (v .seamCount)
+  in-range-number : (q : Coo3D) → isOdd (inRangeCount q v) ≡ isOdd (v .seamCount)
   unfolding inRangeCount
   in-range-number q = odd-number (isInRange q) (edgesOf v) ∙ in-range-seams q
 

@@ -64,12 +64,12 @@ pub record Promises : Type 0 where
   -- number of edges in range is odd exactly when the seam count is; (0, 0, −1) is contained exactly when the flag is set; and (0, 0, 1), where every stored normal
   -- has z above 0, exactly when exactly one of these holds: the flag is set; the seam count is odd. Edges along a meridian may have any normal.
   pub poles : (r : Region) → Made r → Poles r
-  -- Of every region value and at every point, no more edges are in range than the count; in a made region of an odd number of corners and an even seam count, one
-  -- fewer. The call that counts them is `contains_with_range_count`.
+  -- Of every region value and at every point, no more edges are in range than the count; in a made region of an odd number of corners, whatever its seam count, at most
+  -- one fewer. The call that counts them is `contains_with_range_count`.
   pub in-range-at-most : (r : Region) → AtMost r
   pub in-range-odd-at-most : (r : Region) → Made r → OddAtMost r
   -- The outline of `costliest_outline`, for every n from 1 to 64: it is made, of n corners, its seam count is 0, and at its point n edges are in range where n is even
-  -- and n − 1 where it is odd. No made region of n corners and an even seam count has more in range.
+  -- and n − 1 where it is odd. No made region of n corners has more in range anywhere.
   pub costliest : (n : ℕ) → 0 < n → n ≤ 64 → (o : CostliestOutline) → Outlines o n → Costliest n o
   -- Document 01's marked cases hold of S.
   pub marked-cases : MarkedCases (buildOf corners 4 Default)

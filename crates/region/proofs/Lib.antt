@@ -6,6 +6,7 @@ pub mod Corners
 pub mod Seam
 pub mod Drawn
 pub mod InRange
+pub mod Halves
 pub mod Rules
 pub mod Flags
 pub mod Answered
