@@ -1,4 +1,4 @@
--- The outline's corners: doubles of the domain, on three meridians of which no two are half a turn apart, east and west of the point in turn.
+-- The outline's corners: doubles of the domain, on three meridians of which no two are more than half a turn apart, east and west of the point in turn.
 use Prim.Native.Nat.{ℕ, zero, suc}
 use mathlib.Core.Path.{_≡_, refl}
 use mathlib.Core.Bool.{Bool, true, false, not}

@@ -28,7 +28,7 @@ pub not-ranged : (a : RangedDecision) (v : View) (p : Coo3D) (k : ℕ) (vs : Lis
 not-ranged a v p k vs e f h = record { decision = h .0 ∙ sym e; in-range = h .1 ∙ ap numberOr0 (sym f) }
 
 pub ranged : (a : RangedDecision) (v : View) (p q : Coo3D) (b : Bool) → (v .count ≡ 0 → ⊥) → v .count ≤ 64 → answered q ≡ pointAt 0 p → decisionAnswer (a .decision) ≡ answered b → (b ≡ contained q v) × (a .«in_range» ≡ inRangeCount q v) → Ranged a v p
-unfolding containsOf rangeCountOf
+unfolding containsOf rangeCountOf inRangeCount
 ranged a v p q b some few e d h =
     record {
       decision = d ∙ ap answered (h .0) ∙ sym (asked-inside (v .count) p (λ x. contained x v) some few q e);

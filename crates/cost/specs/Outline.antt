@@ -23,7 +23,7 @@ cosDegree = ofBits binary64 0x3FEF_FEC0_97F5_AF8A
 abbrev pub sinDegree : Float
 sinDegree = ofBits binary64 0x3F91_DF0B_2B89_DD1E
 
--- ---- the meridians of 60 and of 120 degrees east: their longitudes, the cosine of the western one, which is the other's opposite, and their sine
+-- ---- the meridians of 60 and of 120 degrees east: their longitudes, and the sine of both; the cosines are a half and its opposite
 
 abbrev pub west : Float
 west = ofBits binary64 0x3FF0_C152_382D_7365

@@ -1,4 +1,4 @@
-// What containment costs: how many edges are in range at a point, and an outline of which that is as many as can be. Upstream has neither.
+// What containment costs: how many edges are in range at a point, and an outline that has as many as can be. Upstream has neither.
 ghost use mathlib.Core.Path.{_≡_};
 ghost use Rattle.refusal.specs.Answer.{refusedFor, decisionAnswer};
 ghost use Rattle.region.specs.View.{viewOf};
@@ -30,7 +30,7 @@ pub struct RangedDecision {
     pub in_range: usize,
 }
 
-// A region or a refusal, and a point.
+// The outline or a refusal, and its point, which stands beside a refusal too.
 pub struct CostliestOutline {
     pub built: Built,
     pub point: Coo3D,
@@ -147,7 +147,7 @@ fn abreast() -> Coo3D
     }
 }
 
-// An outline of so many corners, and a point at which all its edges are in range, or all but one where the count is odd.
+// An outline of so many corners, and a point at which all its edges are in range, or all but one where the count is odd. 0 corners and more than 64 are refused.
 pub fn costliest_outline(count: usize) -> CostliestOutline
     ensures { λ o. ⌜ Outlines o count ⌝ }
 {

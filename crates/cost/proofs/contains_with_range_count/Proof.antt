@@ -30,14 +30,14 @@ refused-requires : tie.Need-refused-requires Inv-loop μ-loop
 refused-requires c κs = search needs
 
 returns : tie.Need-returns Inv-loop μ-loop
-unfolding containsOf rangeCountOf
+unfolding containsOf rangeCountOf inRangeCount
 returns c = not-ranged _ _ _ 2 [] (count-none _ _ (c .before .if1 .taken)) (count-none _ _ (c .before .if1 .taken)) (c .refused .ensures)
 
 refused-requires-2 : tie.Need-refused-requires-2 Inv-loop μ-loop
 refused-requires-2 c κs = search needs
 
 returns-2 : tie.Need-returns-2 Inv-loop μ-loop
-unfolding containsOf rangeCountOf
+unfolding containsOf rangeCountOf inRangeCount
 returns-2 c = not-ranged _ _ _ 3 [] (count-many _ _ (c .before .before .if1 .left) (c .before .if2 .taken)) (count-many _ _ (c .before .before .if1 .left) (c .before .if2 .taken)) (c .refused2 .ensures)
 
 check-point-requires : tie.Need-check-point-requires Inv-loop μ-loop
@@ -53,7 +53,7 @@ refused-requires-3 : tie.Need-refused-requires-3 Inv-loop μ-loop
 refused-requires-3 c κs = search needs
 
 returns-3 : tie.Need-returns-3 Inv-loop μ-loop
-unfolding containsOf rangeCountOf
+unfolding containsOf rangeCountOf inRangeCount
 returns-3 c =
     let some = c .before .before .before .before .before .if1 .left in
     let few = c .before .before .before .before .if2 .left in
