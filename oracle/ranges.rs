@@ -7,8 +7,7 @@ use crate::statements::{fails, listed, WAYS};
 
 const STATEMENTS: [&str; 3] = [
     "no more edges are in range than the region has corners",
-    "one edge at least is not in range where a made region has an odd number of corners and an \
-     even seam count",
+    "one edge at least is not in range where a made region has an odd number of corners",
     "the outline of n corners has n corners, a seam count of 0 and n edges in range at its point, \
      or n - 1 where n is odd",
 ];
@@ -20,6 +19,8 @@ const ORIGINS: [&str; 4] = [WAYS[0], WAYS[1], WAYS[2], "handed in"];
 #[derive(Default)]
 struct Times {
     by_origin: [u64; ORIGINS.len()],
+    /// With an even and with an odd seam count, which is to make no difference.
+    by_seam_count: [u64; 2],
     /// How often some edges were in range, and as many as it allows.
     reached: u64,
     /// How often it said nothing.
@@ -37,14 +38,14 @@ impl Tried {
     pub fn at(&mut self, region: &Region, point: &Coo3D) -> Result<(), String> {
         let count = region.count();
         let way = region.way();
-        let is_odd = |number| number % 2 == 1;
-        let one_less = way.is_some() && is_odd(count) && !is_odd(region.seam_count);
+        let one_less = way.is_some() && count % 2 == 1;
         let number = edges_in_range(&region.polygon, point);
         let bounds = [Some(count), one_less.then(|| count - 1)];
         for (index, (times, most)) in self.bounds.iter_mut().zip(bounds).enumerate() {
             match most {
                 Some(most) if number <= most => {
                     times.by_origin[way.map_or(WAYS.len(), |way| way as usize)] += 1;
+                    times.by_seam_count[region.seam_count as usize % 2] += 1;
                     times.reached += u64::from(number > 0 && number == most);
                 }
                 Some(_) => return Err(fails("range", &STATEMENTS, index, region, point)),
@@ -72,8 +73,9 @@ impl Tried {
             any.reached
         );
         eprintln!(
-            "range statement 2: {}; reached {}; left out {}",
+            "range statement 2: {}; {}; reached {}; left out {}",
             listed(&WAYS, &odd.by_origin),
+            listed(&["seam count even", "seam count odd"], &odd.by_seam_count),
             odd.reached,
             odd.left_out
         );
