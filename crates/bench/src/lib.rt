@@ -220,6 +220,54 @@ pub extern "C" fn bench_contains(
     sum
 }
 
+// The same, and how many edges were in range.
+#[no_mangle]
+pub extern "C" fn bench_contains_counting(
+    corners: &[f64],
+    normals: &[f64],
+    flag: u64,
+    points: &[f64],
+) -> u64 {
+    let region = region_of(corners, normals, flag);
+    let mut sum: u64 = 0;
+    let n = points.len() / 5;
+    let mut i: usize = 0;
+    while i < n {
+        let at = i;
+        i += 1;
+        let p = point_at(points, at);
+        let ranged = cost::contains_with_range_count(region, p);
+        let decision = ranged.decision;
+        sum = mix(mix_decision(sum, decision), ranged.in_range as u64);
+    }
+    sum
+}
+
+// No loop: a number of the outline that costs most, as its bits. The corner behind the last one is the outline's point.
+#[no_mangle]
+pub extern "C" fn bench_costliest_outline(count: usize, corner: usize, number: u64) -> u64 {
+    let outline = cost::costliest_outline(count);
+    let built = outline.built;
+    let region = built.region;
+    let mut p = outline.point;
+    if corner < region.count {
+        if corner < 64 {
+            p = region.vertices[corner];
+        }
+    }
+    float::to_bits(if number == 0 {
+        p.x
+    } else if number == 1 {
+        p.y
+    } else if number == 2 {
+        p.z
+    } else if number == 3 {
+        p.lon
+    } else {
+        p.lat
+    })
+}
+
 #[no_mangle]
 pub extern "C" fn bench_arc_first(
     corners: &[f64],
