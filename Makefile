@@ -7,7 +7,7 @@ COUNT ?= 200000
 LISTS ?= 10000
 PREFIX ?= /usr/local
 
-.PHONY: help setup setup-c demo lib camera install dist test doors camera-test flips differential lists fixed-list bench camera-bench
+.PHONY: help setup setup-c demo lib camera install dist test doors camera-test flips differential lists fixed-list bench camera-bench dearest camera-dearest
 
 help:
 	@echo 'make demo          runs the example: makes a region file, draws its map by asking the C function, tells which fixes are inside'
@@ -24,6 +24,8 @@ help:
 	@echo 'make bench         measures the calls beside upstream and writes docs/BENCHMARKS.md; no test'
 	@echo 'make bench ROWS=x  prints the times of the rows whose names contain x, and writes nothing'
 	@echo 'make camera-bench  counts instructions and cycles on the emulated core, for docs/CAMERA.md; no test'
+	@echo 'make dearest       searches for the containment that costs most, for make bench to measure: some two minutes; no test'
+	@echo 'make camera-dearest  the same on the emulated core, for make camera-bench'
 	@echo 'make fixed-list    makes the fixed list of crates/replay anew from upstream'
 	@echo 'make setup         installs what is missing, by package name'
 
@@ -89,3 +91,9 @@ bench:
 camera-bench: setup-c
 	@tests/need python3 python3
 	@camera/bench
+
+dearest:
+	@bench/dearest '$(UPSTREAM)'
+
+camera-dearest: setup-c
+	@camera/dearest

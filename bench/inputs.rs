@@ -5,13 +5,17 @@ use std::f64::consts::{FRAC_PI_2, TAU};
 use upstream::sph_geom::coo3d::Vec3;
 use upstream::sph_geom::{ContainsSouthPoleMethod, Polygon};
 
-use crate::ours::Region;
-use crate::upstream_loops::points;
+use crate::ours::{
+    bench_contains, bench_contains_counting, bench_idle_region, costliest_outline, Region,
+};
+use crate::upstream_loops::{afresh, contains, contains_counting, mix, points};
 
 /// Entries of each input: enough that a branch predictor does not learn them by heart.
 pub const ENTRIES: usize = 2048;
 
 pub const COUNTS: [usize; 4] = [1, 4, 16, 64];
+/// Of the outline that costs most.
+pub const ASKED_COUNTS: [usize; 3] = [4, 16, 64];
 
 #[derive(Clone, Copy)]
 pub enum Outline {
@@ -40,11 +44,15 @@ impl Draw {
     pub fn between(&mut self, low: f64, high: f64) -> f64 {
         low + (high - low) * (self.word() >> 11) as f64 / (1u64 << 53) as f64
     }
+
+    pub fn below(&mut self, bound: u64) -> u64 {
+        self.word() % bound
+    }
 }
 
 type Vector = [f64; 3];
 
-fn at(lon: f64, lat: f64) -> [f64; 5] {
+pub fn at(lon: f64, lat: f64) -> [f64; 5] {
     [
         lat.cos() * lon.cos(),
         lat.cos() * lon.sin(),
@@ -178,6 +186,67 @@ pub fn case(outline: Outline, count: usize) -> Case {
         parallels,
         moved,
     }
+}
+
+/// Points that containment is asked of, as many in a row of each outline.
+pub struct Asked {
+    outlines: Vec<(Polygon, Region)>,
+    points: Vec<f64>,
+}
+
+impl Asked {
+    pub fn new(outlines: Vec<Vec<f64>>, asked: Vec<f64>) -> Asked {
+        let built = |corners: Vec<f64>| {
+            let polygon = afresh(&points(&corners), false);
+            let region = region_of(&polygon);
+            (polygon, region)
+        };
+        Asked {
+            outlines: outlines.into_iter().map(built).collect(),
+            points: asked,
+        }
+    }
+
+    /// Where the outlines are more than one, each pass sets each of them up anew.
+    fn each(&self, n: usize, ask: impl Fn(&Polygon, &Region, &[f64]) -> u64) -> u64 {
+        let points = self.points[..5 * n].chunks(self.points.len() / self.outlines.len());
+        points.zip(&self.outlines).fold(0, |sum, (some, (polygon, region))| {
+            mix(sum, ask(polygon, region, some))
+        })
+    }
+
+    pub fn run(&self, side: &str, n: usize) -> u64 {
+        match side {
+            "ours" => self.each(n, |_, region, some| region.entries(bench_contains, some)),
+            _ => self.each(n, |polygon, _, some| contains(polygon, some)),
+        }
+    }
+
+    pub fn counting(&self, side: &str, n: usize) -> u64 {
+        match side {
+            "ours" => self.each(n, |_, region, some| {
+                region.entries(bench_contains_counting, some)
+            }),
+            _ => self.each(n, |polygon, _, some| contains_counting(polygon, some)),
+        }
+    }
+
+    pub fn idle(&self, n: usize) -> u64 {
+        self.each(n, |_, region, some| region.entries(bench_idle_region, some))
+    }
+}
+
+/// The outline that costs most, and its own point in every call: all edges are in range there.
+pub fn costliest(count: usize) -> Asked {
+    assert_eq!(
+        costliest_outline(count, count, 5),
+        count as u64,
+        "the edges in range at the point"
+    );
+    let numbers =
+        |k: usize| [0, 1, 2, 3, 4].map(|i| f64::from_bits(costliest_outline(count, k, i)));
+    let corners = (0..count).flat_map(numbers).collect();
+    Asked::new(vec![corners], numbers(count).repeat(ENTRIES))
 }
 
 /// The file of a region with one corner moved.

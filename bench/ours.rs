@@ -9,7 +9,7 @@ macro_rules! exported {
 }
 
 exported!((corners: Doubles, m: usize, normals: Doubles, n: usize, flag: u64, entries: Doubles, k: usize):
-    bench_idle_region bench_contains bench_circle_all bench_parallel_first bench_parallel_all bench_put bench_insert bench_hold bench_hold_lent);
+    bench_idle_region bench_contains bench_contains_counting bench_circle_all bench_parallel_first bench_parallel_all bench_put bench_insert bench_hold bench_hold_lent);
 exported!((corners: Doubles, m: usize, normals: Doubles, n: usize, flag: u64, starts: Doubles, k: usize, ends: Doubles, l: usize):
     bench_arc_first bench_arc_all);
 exported!((corners: Doubles, m: usize, normals: Doubles, n: usize, flag: u64, times: usize): bench_remove bench_turn);
@@ -19,6 +19,7 @@ exported!((corners: Doubles, m: usize, normals: Doubles, n: usize, flag: u64, en
 exported!((a: Doubles, m: usize, b: Doubles, n: usize): bench_idle_corners bench_build bench_cone bench_zone_questions);
 exported!((a: Doubles, m: usize): bench_root bench_root_chain bench_zone_new);
 exported!((files: *const u8, m: usize, len: usize, times: usize): bench_read);
+exported!((count: usize, corner: usize, number: u64): bench_costliest_outline);
 
 extern "C" {
     fn jigwandor_contains(
@@ -135,6 +136,10 @@ pub fn two(f: OnTwo, a: &[f64], b: &[f64]) -> u64 {
 
 pub fn one(f: OnOne, a: &[f64]) -> u64 {
     unsafe { f(a.as_ptr(), a.len()) }
+}
+
+pub fn costliest_outline(count: usize, corner: usize, number: u64) -> u64 {
+    unsafe { bench_costliest_outline(count, corner, number) }
 }
 
 pub fn read(files: &[u8], len: usize, times: usize) -> u64 {

@@ -2,9 +2,10 @@
 
 use std::collections::HashMap;
 
-use crate::inputs::OUTLINES;
+use crate::inputs::{ASKED_COUNTS, OUTLINES};
 use crate::measure::{instructions, stack_of, times, Measured, Table};
-use crate::rows::{fresh_build, name_of, Row, Section, COPY, SEAM};
+use crate::dearest::MEASURES;
+use crate::rows::{fresh_build, name_of, Row, Section, COPY, COSTLIEST, MOST, SEAM};
 
 pub fn report(sections: &[Section], counts: &HashMap<String, f64>) {
     let rows: Vec<&Row> = sections.iter().flat_map(|section| &section.rows).collect();
@@ -16,6 +17,10 @@ pub fn report(sections: &[Section], counts: &HashMap<String, f64>) {
     goals(&rows, &times, &counts, &stacks);
     for section in sections {
         println!("## {}\n", section.title);
+        if section.title == MOST {
+            costliest(&times, &counts);
+            continue;
+        }
         println!(
             "| call | ours, ns | {0}, ns | ratio | ours, instructions | {0}, instructions | ratio | stack, bytes |",
             section.beside
@@ -37,6 +42,45 @@ pub fn report(sections: &[Section], counts: &HashMap<String, f64>) {
         }
         println!();
     }
+}
+
+/// Each figure is followed by its ratio to that of the outline that costs most, with as many corners.
+fn costliest(times: &Table, counts: &Table) {
+    println!("| contains | ours, ns | × | Rust, ns | × | ours, instructions | × | Rust, instructions | × |");
+    println!("|---|--:|--:|--:|--:|--:|--:|--:|--:|");
+    for corners in ASKED_COUNTS {
+        let most = name_of("contains", corners, COSTLIEST);
+        let cells = |of: &Table, name: &str, digits: usize| {
+            let (this, most) = (of[name], of[&most]);
+            format!(
+                " {:.digits$} | {:.2} | {:.digits$} | {:.2} |",
+                this.ours,
+                this.ours / most.ours,
+                this.beside,
+                this.beside / most.beside
+            )
+        };
+        let line = |outline: &str, one: bool| {
+            let name = name_of("contains", corners, outline);
+            if times.contains_key(&name) {
+                // Outlines in turn are set up in the loops, which is more of their instructions than of their times.
+                let count = match one {
+                    true => cells(counts, &name, 0),
+                    false => " | | | |".into(),
+                };
+                let what = name.trim_start_matches("contains, ");
+                println!("| {what} |{}{count}", cells(times, &name, 1));
+            }
+        };
+        for (_, outline) in OUTLINES {
+            line(outline, true);
+        }
+        line(COSTLIEST, true);
+        for (measure, _, text) in MEASURES {
+            line(text, measure.outlines() == 1);
+        }
+    }
+    println!();
 }
 
 /// For whoever changes a call: a line for each of some rows.

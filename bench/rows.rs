@@ -2,7 +2,8 @@
 
 use std::hint::black_box;
 
-use crate::inputs::{self, region_of, Case, COUNTS, OUTLINES};
+use crate::dearest::{self, MEASURES};
+use crate::inputs::{self, region_of, Asked, Case, ASKED_COUNTS, COUNTS, OUTLINES};
 use crate::ours::*;
 use crate::upstream_loops as theirs;
 
@@ -35,6 +36,9 @@ pub struct Section {
 type Named = (usize, &'static str, &'static Case);
 
 pub const SEAM: &str = OUTLINES[1].1;
+/// The section of the outline that costs most, which has a table of its own.
+pub const MOST: &str = "The outline that costs most";
+pub const COSTLIEST: &str = "the outline that costs most, at its point";
 pub const COPY: &str = "one copy of a region, by the C library";
 const REGION_BYTES: usize = 64 * 40 + 64 * 24 + 16;
 
@@ -61,6 +65,8 @@ pub fn sections() -> Vec<Section> {
         .2;
     vec![
         queries(&cases),
+        costliest(),
+        counting(full),
         edits(full),
         files(full),
         roots(),
@@ -195,6 +201,68 @@ fn queries(cases: &[Named]) -> Section {
         title: "Regions",
         beside: "Rust",
         rows,
+    }
+}
+
+/// Each side of a search's rows has what was found for it.
+fn costliest() -> Section {
+    let asked_row = |name: String, ours: &'static Asked, beside: &'static Asked| Row {
+        check: Some(Box::new(|n| ours.run("beside", n))),
+        idle: Some(Box::new(|n| ours.idle(n))),
+        ..row(
+            &name,
+            Box::new(|n| ours.run("ours", n)),
+            Box::new(|n| beside.run("beside", n)),
+        )
+    };
+    let mut rows = Vec::new();
+    for count in ASKED_COUNTS {
+        let most = leaked(inputs::costliest(count));
+        rows.push(asked_row(name_of("contains", count, COSTLIEST), most, most));
+    }
+    let found = dearest::found();
+    for (measure, _, text) in MEASURES {
+        for count in ASKED_COUNTS {
+            let of = |side: &str| {
+                found
+                    .iter()
+                    .find(|found| {
+                        found.measure == measure
+                            && found.side == side
+                            && found.candidate.count() == count
+                    })
+                    .map(|found| leaked(found.candidate.asked(measure)))
+            };
+            if let (Some(ours), Some(beside)) = (of("ours"), of("beside")) {
+                rows.push(asked_row(name_of("contains", count, text), ours, beside));
+            }
+        }
+    }
+    Section {
+        title: MOST,
+        beside: "Rust",
+        rows,
+    }
+}
+
+/// Beside the same call without the number.
+fn counting(seam: &'static Case) -> Section {
+    let most = leaked(inputs::costliest(64));
+    let seam = leaked(Asked::new(
+        vec![seam.region.corners.clone()],
+        seam.points.clone(),
+    ));
+    let counting_row = |outline: &str, asked: &'static Asked| Row {
+        name: name_of("contains_with_range_count", 64, outline),
+        ours: Box::new(|n| asked.counting("ours", n)),
+        beside: Beside::Row(name_of("contains", 64, outline)),
+        check: Some(Box::new(|n| asked.counting("beside", n))),
+        idle: Some(Box::new(|n| asked.idle(n))),
+    };
+    Section {
+        title: "Containment with the number of edges in range",
+        beside: "contains, ours",
+        rows: vec![counting_row(COSTLIEST, most), counting_row(SEAM, seam)],
     }
 }
 

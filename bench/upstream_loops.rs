@@ -64,6 +64,21 @@ pub fn contains(polygon: &Polygon, points: &[f64]) -> u64 {
         .fold(0, |sum, p| mix(sum, polygon.contains(&point(p)).into()))
 }
 
+/// Upstream does not tell how many edges are in range: they are counted here.
+pub fn contains_counting(polygon: &Polygon, points: &[f64]) -> u64 {
+    points.chunks_exact(5).map(point).fold(0, |sum, p| {
+        let corners = &polygon.vertices;
+        let mut from = &corners[corners.len() - 1];
+        let mut in_range = 0;
+        for to in corners.iter() {
+            let between = (from.lon <= p.lon) != (to.lon <= p.lon);
+            in_range += u64::from(between == ((to.lon - from.lon).abs() <= PI));
+            from = to;
+        }
+        mix(mix(sum, polygon.contains(&p).into()), in_range)
+    })
+}
+
 #[inline]
 fn mix_first(sum: u64, first: Option<UnitVect3>) -> u64 {
     match first {

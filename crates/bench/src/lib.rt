@@ -243,13 +243,18 @@ pub extern "C" fn bench_contains_counting(
     sum
 }
 
-// No loop: a number of the outline that costs most, as its bits. The corner behind the last one is the outline's point.
+// No loop: a number of the outline that costs most, a double as its bits. The corner behind the last one is the outline's point, and number 5
+// how many edges are in range there.
 #[no_mangle]
 pub extern "C" fn bench_costliest_outline(count: usize, corner: usize, number: u64) -> u64 {
     let outline = cost::costliest_outline(count);
     let built = outline.built;
     let region = built.region;
     let mut p = outline.point;
+    if number == 5 {
+        let ranged = cost::contains_with_range_count(region, p);
+        return ranged.in_range as u64;
+    }
     if corner < region.count {
         if corner < 64 {
             p = region.vertices[corner];
