@@ -30,10 +30,18 @@ pub enum Measure {
 use Measure::*;
 
 pub const MEASURES: [(Measure, &str, &str); 4] = [
-    (Instructions, "instructions", "dearest found by instructions"),
+    (
+        Instructions,
+        "instructions",
+        "dearest found by instructions",
+    ),
     (Time, "time", "dearest found by time, one outline"),
     (InTurn, "in-turn", "dearest found by time, outlines in turn"),
-    (Tiny, "tiny", "dearest found by time, outlines in turn, vectors of any size"),
+    (
+        Tiny,
+        "tiny",
+        "dearest found by time, outlines in turn, vectors of any size",
+    ),
 ];
 
 impl Measure {
@@ -51,7 +59,7 @@ impl Measure {
 pub struct Candidate {
     /// The cells of each corner's longitude and latitude.
     corners: Vec<[u8; 2]>,
-    /// First and last cell of the points' longitudes, and of their latitudes; there a point is drawn for each call.
+    /// First and last cell of the points' longitudes, and of their latitudes; there a point is drawn for each call, or one for all.
     window: [u8; 4],
     /// Powers of two that corners' vectors, points' vectors and all longitudes are multiplied by.
     powers: [i32; 3],
@@ -170,12 +178,16 @@ impl Candidate {
             })
             .collect();
         let [west, east, south, north] = self.window.map(f64::from);
-        let points = (0..ENTRIES)
+        let mut points: Vec<f64> = (0..ENTRIES)
             .flat_map(|_| {
                 let lon = draw.between(west + 0.25, east + 0.75);
                 place(lon, draw.between(south, north + 1.0), of_points)
             })
             .collect();
+        // No mean is above the most of one point.
+        if measure == Instructions {
+            points = points[..5].repeat(ENTRIES);
+        }
         Asked::new(outlines, points)
     }
 }
@@ -233,11 +245,7 @@ pub fn found() -> Vec<Found> {
 // The search
 
 /// The dearest of some drawn by chance, and from there on every change that makes it dearer.
-fn search(
-    count: usize,
-    measure: Measure,
-    cost: &mut dyn FnMut(&Asked) -> f64,
-) -> (Candidate, f64) {
+fn search(count: usize, measure: Measure, cost: &mut dyn FnMut(&Asked) -> f64) -> (Candidate, f64) {
     let mut draw = Draw(SEED);
     let mut best: Option<(Candidate, f64)> = None;
     for step in 0..STARTS + STEPS {
@@ -267,7 +275,10 @@ extern "C" {
 fn now() -> i64 {
     const CLOCK_THREAD_CPUTIME_ID: i32 = 3;
     let mut time = [0; 2];
-    assert_eq!(unsafe { clock_gettime(CLOCK_THREAD_CPUTIME_ID, &mut time) }, 0);
+    assert_eq!(
+        unsafe { clock_gettime(CLOCK_THREAD_CPUTIME_ID, &mut time) },
+        0
+    );
     1_000_000_000 * time[0] + time[1]
 }
 

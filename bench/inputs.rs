@@ -210,9 +210,11 @@ impl Asked {
     /// Where the outlines are more than one, each pass sets each of them up anew.
     fn each(&self, n: usize, ask: impl Fn(&Polygon, &Region, &[f64]) -> u64) -> u64 {
         let points = self.points[..5 * n].chunks(self.points.len() / self.outlines.len());
-        points.zip(&self.outlines).fold(0, |sum, (some, (polygon, region))| {
-            mix(sum, ask(polygon, region, some))
-        })
+        points
+            .zip(&self.outlines)
+            .fold(0, |sum, (some, (polygon, region))| {
+                mix(sum, ask(polygon, region, some))
+            })
     }
 
     pub fn run(&self, side: &str, n: usize) -> u64 {

@@ -2,9 +2,9 @@
 
 use std::collections::HashMap;
 
+use crate::dearest::MEASURES;
 use crate::inputs::{ASKED_COUNTS, OUTLINES};
 use crate::measure::{instructions, stack_of, times, Measured, Table};
-use crate::dearest::MEASURES;
 use crate::rows::{fresh_build, name_of, Row, Section, COPY, COSTLIEST, MOST, SEAM};
 
 pub fn report(sections: &[Section], counts: &HashMap<String, f64>) {
@@ -44,33 +44,35 @@ pub fn report(sections: &[Section], counts: &HashMap<String, f64>) {
     }
 }
 
+const ABOUT_MOST: &str = "\
+`cost::costliest_outline`, at its own point in every call: all its edges are in range there, and more there cannot be. Each figure is followed by its
+ratio to that of this outline. 'Dearest found' is what `make dearest` came to and left in `bench/dearest.txt`: outlines and points by chance, then
+every change that makes a call dearer, for each side its own.
+";
+
 /// Each figure is followed by its ratio to that of the outline that costs most, with as many corners.
 fn costliest(times: &Table, counts: &Table) {
+    println!("{ABOUT_MOST}");
     println!("| contains | ours, ns | × | Rust, ns | × | ours, instructions | × | Rust, instructions | × |");
     println!("|---|--:|--:|--:|--:|--:|--:|--:|--:|");
     for corners in ASKED_COUNTS {
-        let most = name_of("contains", corners, COSTLIEST);
-        let cells = |of: &Table, name: &str, digits: usize| {
-            let (this, most) = (of[name], of[&most]);
+        let cells = |of: &Table, outline: &str, digits: usize| {
+            let this = of[&name_of("contains", corners, outline)];
+            let [ours, beside] = factors(of, corners, outline);
             format!(
-                " {:.digits$} | {:.2} | {:.digits$} | {:.2} |",
-                this.ours,
-                this.ours / most.ours,
-                this.beside,
-                this.beside / most.beside
+                " {:.digits$} | {ours:.2} | {:.digits$} | {beside:.2} |",
+                this.ours, this.beside
             )
         };
         let line = |outline: &str, one: bool| {
+            // Outlines in turn are set up in the loops, which is more of their instructions than of their times.
+            let count = match one {
+                true => cells(counts, outline, 0),
+                false => " | | | |".into(),
+            };
             let name = name_of("contains", corners, outline);
-            if times.contains_key(&name) {
-                // Outlines in turn are set up in the loops, which is more of their instructions than of their times.
-                let count = match one {
-                    true => cells(counts, &name, 0),
-                    false => " | | | |".into(),
-                };
-                let what = name.trim_start_matches("contains, ");
-                println!("| {what} |{}{count}", cells(times, &name, 1));
-            }
+            let what = name.trim_start_matches("contains, ");
+            println!("| {what} |{}{count}", cells(times, outline, 1));
         };
         for (_, outline) in OUTLINES {
             line(outline, true);
@@ -81,6 +83,54 @@ fn costliest(times: &Table, counts: &Table) {
         }
     }
     println!();
+    verdict(times, counts);
+}
+
+/// Ours and theirs, in parts of the outline that costs most.
+fn factors(of: &Table, corners: usize, outline: &str) -> [f64; 2] {
+    let [this, most] =
+        [outline, COSTLIEST].map(|outline| of[&name_of("contains", corners, outline)]);
+    [this.ours / most.ours, this.beside / most.beside]
+}
+
+/// The largest factor of ours and of theirs, of these that were found.
+fn largest(of: &Table, found: &[&str]) -> [f64; 2] {
+    let all = ASKED_COUNTS.iter().flat_map(|&corners| {
+        found
+            .iter()
+            .map(move |outline| factors(of, corners, outline))
+    });
+    all.fold([0.0; 2], |a, b| [a[0].max(b[0]), a[1].max(b[1])])
+}
+
+fn verdict(times: &Table, counts: &Table) {
+    let text = |measure: usize| MEASURES[measure].2;
+    let line = |what: &str, [ours, beside]: [f64; 2], why: &str| {
+        let is = if ours < 1.005 { "is" } else { "is not" };
+        println!("- {what} the outline {is} the worst case: what was found takes at most {ours:.2} times as much, of the Rust {beside:.2} times. {why}");
+    };
+    line(
+        "By instructions",
+        largest(counts, &[text(0)]),
+        "In range an edge costs most, and one that goes\n  west an instruction more than one that goes east; where all are in range they go west and east in turn. The loop's own are two more where the answer is yes.",
+    );
+    line(
+        "By time, with one outline,",
+        largest(times, &[text(0), text(1)]),
+        "Asked at one point over and\n  over, its branches go the same way in every call, and the processor knows them.",
+    );
+    line(
+        "By time, with outlines in turn,",
+        largest(times, &[text(2)]),
+        "No pattern is there long enough\n  to be known.",
+    );
+    line(
+        "By time, with vectors of any size that is legal,",
+        largest(times, &[text(3)]),
+        "Products below the\n  least normal double take longer, on some processors far longer. Vectors of length one have none.",
+    );
+    let [ours, _] = largest(times, &MEASURES.map(|(_, _, text)| text));
+    println!("\nA planner takes the outline's instructions as they are. The outline's time wants a factor of {:.1} on this processor, with regions and code in its caches.\n", (10.0 * ours).ceil() / 10.0);
 }
 
 /// For whoever changes a call: a line for each of some rows.

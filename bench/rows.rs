@@ -234,6 +234,11 @@ fn costliest() -> Section {
                     .map(|found| leaked(found.candidate.asked(measure)))
             };
             if let (Some(ours), Some(beside)) = (of("ours"), of("beside")) {
+                let answers = ["ours", "beside"].map(|side| beside.run(side, inputs::ENTRIES));
+                assert_eq!(
+                    answers[0], answers[1],
+                    "{text}: the two sides answer differently"
+                );
                 rows.push(asked_row(name_of("contains", count, text), ours, beside));
             }
         }

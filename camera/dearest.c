@@ -1,21 +1,23 @@
 /*
  * Searches for the containment that costs most on the camera's core, by the cycles of cycles.c, whose file it reads as it grows: dearest COUNTS.
- * It begins with the outline that costs most and goes on with every change of a number, of the point's or of a corner's, that makes a call dearer:
- * all edges stay in range, or it is cheaper, and what is left to find is operands that libgcc takes longer over.
+ * It begins with the outline that costs most and goes on with every change of the point or of a corner that makes a call dearer: all edges stay in
+ * range, or it is cheaper, and what is left to find is operands that libgcc takes longer over.
  *
- * Prints, for `jigwandor_contains` ("call") and for a region that is kept ("loop"), KIND CORNERS and the doubles' bits, of the corners and
- * then of the point, five each.
+ * Prints NAME CORNERS and the doubles' bits, of the corners and then of the point, five each. NAME is call, for `jigwandor_contains`, or loop, for a
+ * region that is kept; with unit- in front the vectors fit their longitudes and latitudes, and without they are any that are legal.
  */
 #include "bench.h"
 #include "harness.h"
 #include "jigwandor.h"
 
+#include <math.h>
 #include <string.h>
 
+#define PI 0x1.921fb54442d18p+1
 #define BEGIN() __asm__ volatile("mov r10, r10" ::: "memory")
 #define END() __asm__ volatile("mov r11, r11" ::: "memory")
 
-enum { MOST = 64, STEPS = 15000, SEED = 1 };
+enum { MOST = 64, STEPS = 12000, SEED = 1 };
 
 /* The corners, and behind them the point. */
 typedef struct {
@@ -151,10 +153,28 @@ static void change(candidate *c, uint32_t n)
             memcpy(c->at[i], c->at[k], sizeof c->at[i]);
 }
 
-static void show(const char *kind, const candidate *c, uint32_t n)
+/* The same with vectors of length one: another place, or one beside it. */
+static void change_place(candidate *c, uint32_t n)
+{
+    uint32_t k = below(3) ? below(n) : n;
+    double lon = PI * (below(1 << 24) * 0x1p-23), lat = PI * (below(1 << 24) * 0x1p-24 - 0.5);
+    if (below(2)) {
+        lon = fabs(c->at[k][3] + 0.01 * (lon - PI));
+        lat = c->at[k][4] + 0.01 * lat;
+    }
+    if (lon > 2 * PI || fabs(lat) > PI / 2)
+        return;
+    c->at[k][0] = cos(lat) * cos(lon);
+    c->at[k][1] = cos(lat) * sin(lon);
+    c->at[k][2] = sin(lat);
+    c->at[k][3] = lon;
+    c->at[k][4] = lat;
+}
+
+static void show(const char *name, const candidate *c, uint32_t n)
 {
     static char text[18];
-    say(kind);
+    say(name);
     say(" ");
     say_number(n);
     for (uint32_t i = 0; i < 5 * (n + 1); i++) {
@@ -167,49 +187,57 @@ static void show(const char *kind, const candidate *c, uint32_t n)
     say("\n");
 }
 
-int main(void)
+static void search(const char *name, uint32_t (*cost)(const candidate *, uint32_t), void (*change_one)(candidate *, uint32_t))
 {
     static candidate best, next, before;
-    counts = open_file(word(1), 0);
-    if (counts < 0)
-        leave(72);
-    for (int kept = 0; kept < 2; kept++) {
-        uint32_t had = 0;
-        for (uint32_t n = 4; n <= MOST; had = n, n *= 4) {
-            uint32_t (*cost)(const candidate *, uint32_t) = kept ? loop_cost : call_cost;
-            for (uint32_t i = 0; i <= n; i++)
-                for (uint32_t k = 0; k < 5; k++)
-                    best.at[i][k] = of_bits(bench_costliest_outline(n, i, k));
-            uint32_t most = cost(&best, n), dearest = most;
-            /* What was found with fewer corners, over and over. */
-            if (had) {
+    uint32_t had = 0;
+    for (uint32_t n = 4; n <= MOST; had = n, n *= 4) {
+        for (uint32_t i = 0; i <= n; i++)
+            for (uint32_t k = 0; k < 5; k++)
+                best.at[i][k] = of_bits(bench_costliest_outline(n, i, k));
+        uint32_t most = cost(&best, n), dearest = most;
+        for (uint32_t step = 0; step < STEPS; step++) {
+            next = best;
+            if (step == 0 && had) { /* what was found with fewer corners, over and over */
                 for (uint32_t i = 0; i < n; i++)
                     memcpy(next.at[i], before.at[i % had], sizeof next.at[i]);
                 memcpy(next.at[n], before.at[had], sizeof next.at[n]);
-                uint32_t of_next = cost(&next, n);
-                if (of_next > dearest) {
-                    best = next;
-                    dearest = of_next;
-                }
+            } else
+                change_one(&next, n);
+            uint32_t of_next = cost(&next, n);
+            if (of_next > dearest) {
+                best = next;
+                dearest = of_next;
             }
-            for (uint32_t step = 0; step < STEPS; step++) {
-                next = best;
-                change(&next, n);
-                uint32_t of_next = cost(&next, n);
-                if (of_next > dearest) {
-                    best = next;
-                    dearest = of_next;
-                }
-            }
-            before = best;
-            show(kept ? "loop" : "call", &best, n);
-            say("# ");
-            say_number(dearest);
-            say(" cycles beside ");
-            say_number(most);
-            say("\n");
         }
+        before = best;
+        show(name, &best, n);
+        say("# ");
+        say(name);
+        say(", ");
+        say_number(n);
+        say(" corners: ");
+        say_number(dearest);
+        say(" cycles beside ");
+        say_number(most);
+        say("\n");
     }
+}
+
+int main(void)
+{
+    counts = open_file(word(1), 0);
+    if (counts < 0)
+        leave(72);
+    say("# seed ");
+    say_number(SEED);
+    say(", ");
+    say_number(STEPS);
+    say(" changes for each line; a loop's cycles have its set-up in them\n");
+    search("unit-call", call_cost, change_place);
+    search("unit-loop", loop_cost, change_place);
+    search("call", call_cost, change);
+    search("loop", loop_cost, change);
     leave(0);
     return 0;
 }

@@ -56,11 +56,16 @@ static void calls(const char *contains, const char *hold, const unsigned char *f
     }
 }
 
-/* One fix, at which all edges are in range, or nearly all. */
-static void call(const char *contains, const unsigned char *from_file, uint32_t len, const double *p)
+/* Of one fix, at which all edges are in range. */
+static void call(const char *name, const unsigned char *from_file, uint32_t len, const double *p)
 {
-    MEASURE("call", contains, 1, memcpy(file, from_file, len), sum = jigwandor_contains(file, len, p[0], p[1], p[2], p[3], p[4]));
+    MEASURE("call", name, 1, memcpy(file, from_file, len), sum = jigwandor_contains(file, len, p[0], p[1], p[2], p[3], p[4]));
 }
+
+#define CALLS(name, set)                                                                                                       \
+    call(name "-4", file_##set##_4, sizeof file_##set##_4, points_##set##_4);                                                  \
+    call(name "-16", file_##set##_16, sizeof file_##set##_16, points_##set##_16);                                              \
+    call(name "-64", file_##set##_64, sizeof file_##set##_64, points_##set##_64)
 
 /* What the caller does beside: the vector of a fix, and a seal's test. */
 static __attribute__((noinline)) void vector(double lon, double lat, volatile double *v)
@@ -84,18 +89,20 @@ static void beside(void)
 
 #define REGION(n) corners_##n, LEN(corners_##n), normals_##n, LEN(normals_##n), flag_##n
 
+#define LOOPS(name, set)                                                                                                       \
+    LOOP(name "-4", bench_contains(REGION(set##_4), points_##set##_4, 5 * n));                                                 \
+    LOOP(name "-16", bench_contains(REGION(set##_16), points_##set##_16, 5 * n));                                              \
+    LOOP(name "-64", bench_contains(REGION(set##_64), points_##set##_64, 5 * n))
+
 int main(void)
 {
     calls("contains-4", "hold-4", file_4, sizeof file_4, points_4);
     calls("contains-16", "hold-16", file_16, sizeof file_16, points_16);
     calls("contains-64", "hold-64", file_64, sizeof file_64, points_64);
     calls("contains-zigzag", "hold-zigzag", file_zigzag, sizeof file_zigzag, points_zigzag);
-    call("contains-most-4", file_most_4, sizeof file_most_4, points_most_4);
-    call("contains-most-16", file_most_16, sizeof file_most_16, points_most_16);
-    call("contains-most-64", file_most_64, sizeof file_most_64, points_most_64);
-    call("contains-found-4", file_call_4, sizeof file_call_4, points_call_4);
-    call("contains-found-16", file_call_16, sizeof file_call_16, points_call_16);
-    call("contains-found-64", file_call_64, sizeof file_call_64, points_call_64);
+    CALLS("contains-most", most);
+    CALLS("contains-unit", unit_call);
+    CALLS("contains-found", call);
     beside();
     LOOP("idle-region", bench_idle_region(REGION(64), points_64, 5 * n));
     LOOP("idle-corners", bench_idle_corners(corners_64, LEN(corners_64), points_64, 5 * n));
@@ -106,12 +113,9 @@ int main(void)
     LOOP("contains-16", bench_contains(REGION(16), points_16, 5 * n));
     LOOP("contains-64", bench_contains(REGION(64), points_64, 5 * n));
     LOOP("contains-zigzag", bench_contains(REGION(zigzag), points_zigzag, 5 * n));
-    LOOP("contains-most-4", bench_contains(REGION(most_4), points_most_4, 5 * n));
-    LOOP("contains-most-16", bench_contains(REGION(most_16), points_most_16, 5 * n));
-    LOOP("contains-most-64", bench_contains(REGION(most_64), points_most_64, 5 * n));
-    LOOP("contains-found-4", bench_contains(REGION(loop_4), points_loop_4, 5 * n));
-    LOOP("contains-found-16", bench_contains(REGION(loop_16), points_loop_16, 5 * n));
-    LOOP("contains-found-64", bench_contains(REGION(loop_64), points_loop_64, 5 * n));
+    LOOPS("contains-most", most);
+    LOOPS("contains-unit", unit_loop);
+    LOOPS("contains-found", loop);
     LOOP("arc-first-64", bench_arc_first(REGION(64), near_64, 5 * n, ends_64, 5 * n));
     LOOP("arc-all-64", bench_arc_all(REGION(64), near_64, 5 * n, ends_64, 5 * n));
     LOOP("circle-all-64", bench_circle_all(REGION(64), circles_64, 3 * n));
