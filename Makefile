@@ -24,7 +24,7 @@ help:
 	@echo 'make bench         measures the calls beside upstream and writes docs/BENCHMARKS.md; no test'
 	@echo 'make bench ROWS=x  prints the times of the rows whose names contain x, and writes nothing'
 	@echo 'make camera-bench  counts instructions and cycles on the emulated core, for docs/CAMERA.md; no test'
-	@echo 'make dearest       searches for the containment that costs most, for make bench to measure: some two minutes; no test'
+	@echo 'make dearest       searches for the containment that costs most, for make bench to measure: some four minutes; no test'
 	@echo 'make camera-dearest  the same on the emulated core, for make camera-bench'
 	@echo 'make fixed-list    makes the fixed list of crates/replay anew from upstream'
 	@echo 'make setup         installs what is missing, by package name'

@@ -3,7 +3,7 @@
 //!   driver count             under callgrind: a file of instruction counts for each side of each row
 //!   driver measure COUNTS    times and stacks, and the tables; COUNTS has a line for each of those files
 //!   driver rows TEXT         times alone, of the rows whose names contain TEXT
-//!   driver dearest           the dearest containment that is found by time, a line for each; it takes half a minute
+//!   driver dearest           the dearest containment that is found by time, a line for each; it takes a minute and a half
 //!   driver dearest PREFIX    under callgrind, whose files have that prefix: by instructions
 //!
 //! Nothing here asserts a time. That both sides answer the same is asserted.
