@@ -158,7 +158,7 @@ impl Candidate {
     }
 
     /// Where there are more outlines than one, each has the corners in an order of its own.
-    pub fn asked(&self, measure: Measure) -> Asked {
+    pub fn asked(&self, measure: Measure, passes: usize) -> Asked {
         let [of_corners, of_points, of_lons] = self.powers.map(|power| f64::from(power).exp2());
         let place = |lon: f64, lat: f64, of: f64| {
             let [x, y, z, lon, lat] = at(TAU * lon / CELLS, 3.0 * lat / CELLS - 1.5);
@@ -178,7 +178,7 @@ impl Candidate {
             })
             .collect();
         let [west, east, south, north] = self.window.map(f64::from);
-        let mut points: Vec<f64> = (0..ENTRIES)
+        let mut points: Vec<f64> = (0..passes * ENTRIES)
             .flat_map(|_| {
                 let lon = draw.between(west + 0.25, east + 0.75);
                 place(lon, draw.between(south, north + 1.0), of_points)
@@ -253,7 +253,7 @@ fn search(count: usize, measure: Measure, cost: &mut dyn FnMut(&Asked) -> f64) -
             Some((best, _)) if step >= STARTS => best.changed(measure, &mut draw),
             _ => Candidate::drawn(count, measure, &mut draw),
         };
-        let asked = next.asked(measure);
+        let asked = next.asked(measure, PASSES);
         let dearest = best.as_ref().map_or(0.0, |best| best.1);
         let mut of_next = cost(&asked);
         // Whatever else the machine does makes a time longer: a second look.

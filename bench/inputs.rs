@@ -1,5 +1,6 @@
 //! Outlines, and what is asked of them.
 
+use std::cell::Cell;
 use std::f64::consts::{FRAC_PI_2, TAU};
 
 use upstream::sph_geom::coo3d::Vec3;
@@ -188,10 +189,13 @@ pub fn case(outline: Outline, count: usize) -> Case {
     }
 }
 
-/// Points that containment is asked of, as many in a row of each outline.
+/// Points that containment is asked of, as many in a row of each outline. There may be more than one pass takes: a run of a whole pass goes on with
+/// the next ones, since a processor learns the way of a few thousand calls by heart.
 pub struct Asked {
     outlines: Vec<(Polygon, Region)>,
     points: Vec<f64>,
+    /// The next pass of each side.
+    next: [Cell<usize>; 2],
 }
 
 impl Asked {
@@ -204,13 +208,19 @@ impl Asked {
         Asked {
             outlines: outlines.into_iter().map(built).collect(),
             points: asked,
+            next: Default::default(),
         }
     }
 
     /// Where the outlines are more than one, each pass sets each of them up anew.
-    fn each(&self, n: usize, ask: impl Fn(&Polygon, &Region, &[f64]) -> u64) -> u64 {
-        let points = self.points[..5 * n].chunks(self.points.len() / self.outlines.len());
-        points
+    fn each(&self, side: usize, n: usize, ask: impl Fn(&Polygon, &Region, &[f64]) -> u64) -> u64 {
+        let mut pass = 0;
+        if n == ENTRIES {
+            pass = self.next[side].get();
+            self.next[side].set((pass + 1) % (self.points.len() / (5 * ENTRIES)));
+        }
+        self.points[5 * ENTRIES * pass..][..5 * n]
+            .chunks(5 * ENTRIES / self.outlines.len())
             .zip(&self.outlines)
             .fold(0, |sum, (some, (polygon, region))| {
                 mix(sum, ask(polygon, region, some))
@@ -219,22 +229,24 @@ impl Asked {
 
     pub fn run(&self, side: &str, n: usize) -> u64 {
         match side {
-            "ours" => self.each(n, |_, region, some| region.entries(bench_contains, some)),
-            _ => self.each(n, |polygon, _, some| contains(polygon, some)),
+            "ours" => self.each(0, n, |_, region, some| region.entries(bench_contains, some)),
+            _ => self.each(1, n, |polygon, _, some| contains(polygon, some)),
         }
     }
 
     pub fn counting(&self, side: &str, n: usize) -> u64 {
         match side {
-            "ours" => self.each(n, |_, region, some| {
+            "ours" => self.each(0, n, |_, region, some| {
                 region.entries(bench_contains_counting, some)
             }),
-            _ => self.each(n, |polygon, _, some| contains_counting(polygon, some)),
+            _ => self.each(1, n, |polygon, _, some| contains_counting(polygon, some)),
         }
     }
 
     pub fn idle(&self, n: usize) -> u64 {
-        self.each(n, |_, region, some| region.entries(bench_idle_region, some))
+        self.each(0, n, |_, region, some| {
+            region.entries(bench_idle_region, some)
+        })
     }
 }
 

@@ -231,7 +231,7 @@ fn costliest() -> Section {
                             && found.side == side
                             && found.candidate.count() == count
                     })
-                    .map(|found| leaked(found.candidate.asked(measure)))
+                    .map(|found| leaked(found.candidate.asked(measure, 16)))
             };
             if let (Some(ours), Some(beside)) = (of("ours"), of("beside")) {
                 let answers = ["ours", "beside"].map(|side| beside.run(side, inputs::ENTRIES));
