@@ -11,7 +11,7 @@ use crate::ours::{
 };
 use crate::upstream_loops::{afresh, contains, contains_counting, mix, points};
 
-/// Entries of each input: enough that a branch predictor does not learn them by heart.
+/// Entries of each input: so many that a branch predictor has much to learn by heart.
 pub const ENTRIES: usize = 2048;
 
 pub const COUNTS: [usize; 4] = [1, 4, 16, 64];

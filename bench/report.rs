@@ -112,7 +112,7 @@ fn verdict(times: &Table, counts: &Table) {
     line(
         "By instructions",
         largest(counts, &[text(0)]),
-        "In range an edge costs most, and one that goes\n  west an instruction more than one that goes east; where all are in range they go west and east in turn. The loop's own are two more where the answer is yes.",
+        "In our call an edge in range costs most, and one that goes\n  west an instruction more than one that goes east; where all are in range they go west and east in turn. The loop's own are two more where the answer is yes.",
     );
     line(
         "By time, with one outline,",
@@ -127,7 +127,7 @@ fn verdict(times: &Table, counts: &Table) {
     line(
         "By time, with vectors of any size that is legal,",
         largest(times, &[text(3)]),
-        "Products below the\n  least normal double take longer, on some processors far longer. They are legal, and no place on Earth has them.",
+        "Products below the\n  least normal double take longer; how much goes by the processor. They come of legal vectors, which no fix has.",
     );
     let up = |found: &[&str]| (10.0 * largest(times, found)[0]).ceil() / 10.0;
     let [most, all] = [
