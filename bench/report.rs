@@ -45,7 +45,7 @@ pub fn report(sections: &[Section], counts: &HashMap<String, f64>) {
 }
 
 const ABOUT_MOST: &str = "\
-`cost::costliest_outline`, at its own point in every call: all its edges are in range there, and more there cannot be. Each figure is followed by its
+`cost::costliest_outline`, at its own point in every call: all its edges are in range there, and no made region of as many corners has more. Each figure is followed by its
 ratio to that of this outline. 'Dearest found' is what `make dearest` came to and left in `bench/dearest.txt`: outlines and points by chance, then
 every change that makes a call dearer, for each side its own.
 ";
