@@ -41,9 +41,10 @@ module _ (x y z : Float) (i : Longitude x) (j : Longitude y) (k : Longitude z) (
 
   -- a step up to PI from x to z, seen from y between them
   from-between : far x z ≡ false → (far y x ≡ false) × (far y z ≡ false)
-  from-between f =
-      (sym (far-back fx fy) ∙ never (far x y) (λ (g : far x y ≡ true). true≢false (sym (far-first fx fy fz xy yz g) ∙ f)),
-      never (far y z) (λ (g : far y z ≡ true). true≢false (sym (far-last fx fy fz xy yz g) ∙ f)))
+  from-between f = (
+    sym (far-back fx fy) ∙ never (far x y) (λ (g : far x y ≡ true). true≢false (sym (far-first fx fy fz xy yz g) ∙ f)),
+    never (far y z) (λ (g : far y z ≡ true). true≢false (sym (far-last fx fy fz xy yz g) ∙ f)),
+  )
 
 on-one-side : (p a b : Bool) → exactlyOne (exactlyOne p a) (exactlyOne p b) ≡ exactlyOne a b
 on-one-side p a b = simp xor
