@@ -2,7 +2,6 @@
 use Prim.Native.Nat.{ℕ, zero, suc}
 use mathlib.Core.Path.{_≡_, refl}
 use mathlib.Core.Bool.{Bool, true, false, not}
-use mathlib.Core.List.{List}
 use lib.Ieee.{Float, add, sub, mul, neg, le, lt, fits, ofBits}
 use lib.ListN.{length}
 use Rattle.coo3d.specs.declared.Coo3D.{Coo3D}

@@ -1,7 +1,7 @@
 -- The outline that costs most: a saw whose teeth lie between two meridians, and a point on a meridian between these.
 use Prim.Native.Nat.{ℕ, zero, suc}
 use mathlib.Core.Path.{_≡_}
-use mathlib.Core.Bool.{Bool, true, false, not, cond}
+use mathlib.Core.Bool.{Bool, true, not, cond}
 use mathlib.Core.List.{List, [], _∷_}
 use lib.Ieee.{Float, binary64, neg, ofBits}
 use Rattle.float.specs.Doubles.{_⊕_, _⊖_, _⊗_, nought, half, one}

@@ -21,7 +21,7 @@ use Rattle.refusal.specs.declared.Outcome.the-variants.{Done}
 use Rattle.region.specs.declared.Built.{Built}
 use Rattle.region.specs.declared.ContainsSouthPoleMethod.the-variants.{DoNotContainsSouthPole}
 use Rattle.region.specs.declared.Region.{Region}
-use Rattle.region.specs.Region.{Builds, buildOf, seamCountOf}
+use Rattle.region.specs.Region.{Builds, seamCountOf}
 use Rattle.region.specs.View.{View, viewOf, made, inRangeCount}
 use Rattle.region.proofs.Answered.{answered-done}
 use Rattle.region.proofs.Containing.{asked-inside}

@@ -1,5 +1,5 @@
 -- How many edges are in range at most.
-use Prim.Native.Nat.{ℕ, _-_, _≤_, _<_, _%_}
+use Prim.Native.Nat.{ℕ, _-_, _≤_, _%_}
 use native.Mathlib.Nat.{le-trans}
 use native.Mathlib.Omega.{arith}
 use mathlib.Core.Path.{_≡_, refl, sym, ap, subst, _∙_}
@@ -17,7 +17,7 @@ use Rattle.domain.proofs.Handed.{Settled, handed-again}
 use Rattle.domain.proofs.Inside.{settled-finite, settled-placed, each-double}
 use Rattle.float.specs.Doubles.{nought, twoPi, isFinite}
 use Rattle.float.proofs.Ordered.{not-beyond}
-use Rattle.lists.specs.Counts.{howMany, oddMany, isOdd}
+use Rattle.lists.specs.Counts.{howMany, isOdd}
 use Rattle.lists.proofs.All.{All, all-both, both}
 use Rattle.lists.proofs.Many.{many-most, many-fewer}
 use Rattle.lists.proofs.Odd.{odd-number, changes, closed-walk}

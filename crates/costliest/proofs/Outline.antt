@@ -1,11 +1,9 @@
 -- The outline of n corners: it is built, no edge crosses the seam, and how many edges are in range at its point.
-use Prim.Native.Nat.{ℕ, zero, suc, _+_, _≤_, _<_}
+use Prim.Native.Nat.{ℕ, _+_, _≤_, _<_}
 use native.Mathlib.Omega.{arith}
 use mathlib.Core.Path.{_≡_, refl, sym, ap, subst, _∙_}
 use mathlib.Core.Bool.{Bool, true, false, cond}
-use mathlib.Core.List.{List, [], _∷_}
-use lib.Dec.{T}
-use lib.Ieee.{Float, binary64, fits, lt}
+use mathlib.Core.List.{List}
 use lib.ListN.{length, take}
 use lib.Seq.{length-take-le, take-take}
 use Rattle.coo3d.specs.declared.Coo3D.{Coo3D}
@@ -17,15 +15,15 @@ use Rattle.domain.specs.Domain.{inDomain}
 use Rattle.domain.proofs.Handed.{Settled, settled-in}
 use Rattle.domain.proofs.Inside.{Good, points-good, each-double, all-doubles}
 use Rattle.domain.proofs.Points.{points-first}
-use Rattle.lists.specs.Counts.{exactlyOne, howMany, isOdd, every}
+use Rattle.lists.specs.Counts.{exactlyOne, howMany, isOdd}
 use Rattle.lists.specs.Cyclic.{lastOf, along}
 use Rattle.lists.proofs.All.{All, none, more, all-both, all-take, all-last, every-each}
 use Rattle.lists.proofs.Alternating.{alternates-take, closed-steps}
 use Rattle.lists.proofs.Many.{many-same}
 use Rattle.lists.proofs.Odd.{changes, false-one}
 use Rattle.refusal.specs.Answer.{answered}
-use Rattle.region.specs.Edges.{Edge, edge, crossesSeam, isInRange}
-use Rattle.region.specs.View.{nowhere, seamsFrom, seamsOf, edgesOf, made, inRangeCount}
+use Rattle.region.specs.Edges.{Edge, edge, isInRange}
+use Rattle.region.specs.View.{nowhere, seamsFrom, seamsOf, made, inRangeCount}
 use Rattle.region.specs.Region.{buildOf}
 use Rattle.region.proofs.Drawn.{many-drawn, each-drawn}
 use Rattle.region.proofs.Flags.{flag-fixed}

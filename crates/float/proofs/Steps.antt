@@ -1,13 +1,13 @@
 -- Steps between two doubles that are not below 0: rounded, a step is no shorter than one inside it, and of two steps in a row to at most TWO_PI only one is beyond PI.
 use Prim.Native.Nat.{ℕ, zero, suc, _+_, _-_, _*_, _≤_, _<_}
-use native.Mathlib.Nat.{add-zero, zero-mul, mul-assoc, mul-comm, mul-right-comm, mul-pos, mul-le-mul-right, le-of-lt, lt-of-mul-lt-mul-right, sub-add-cancel, mul-lt-mul-of-pos-right}
+use native.Mathlib.Nat.{zero-mul, mul-comm, mul-pos, mul-le-mul-right, lt-of-mul-lt-mul-right, sub-add-cancel, mul-lt-mul-of-pos-right}
 use native.Mathlib.Omega.{arith}
 use mathlib.Core.Path.{_≡_, refl, sym, ap, subst, _∙_}
-use mathlib.Core.Bool.{Bool, true, false, not, _&&_, Bool·beq, cond, false≢true, true≢false}
+use mathlib.Core.Bool.{Bool, true, false, _&&_, Bool·beq, cond, false≢true, true≢false}
 use borrow.Author.Tests.{ltb-true, ltb-false, lt-ltb, le-ltb}
 use lib.Dec.{T, ltb}
 use lib.IntN.{ℤ, negsuc}
-use lib.Ieee.{Float, nan, inf, fin, Format, binary64, up, down, round, sum, add, sub, neg, below, lt, le, eq, ofBits}
+use lib.Ieee.{Float, nan, inf, fin, Format, binary64, up, down, round, sum, add, sub, neg, lt, le, eq, ofBits}
 use lib.Ieee.Bits.{is-true}
 use lib.Ieee.Fits.{down-pos}
 use lib.Ieee.Order.{round-mono}

@@ -1,5 +1,5 @@
 -- Laws of `Builds`, for calls that answer a region beside an outcome and for their callers.
-use mathlib.Core.Path.{_≡_, refl, sym, subst, ap, _∙_}
+use mathlib.Core.Path.{_≡_, refl, subst, ap, _∙_}
 use Rattle.refusal.specs.Answer.{Answer, answered, outcomeOf}
 use Rattle.refusal.specs.declared.Outcome.{Outcome}
 use Rattle.refusal.specs.declared.Outcome.the-variants.{Done, Refused}

@@ -1,6 +1,6 @@
 -- The corners of a region lie on two halves of the sphere at a point, such that every edge in range there goes from one half to the other. So on a closed outline of an
 -- odd number of edges one is not in range.
-use mathlib.Core.Path.{_≡_, refl, sym, ap, _∙_}
+use mathlib.Core.Path.{_≡_, refl, sym, _∙_}
 use mathlib.Core.Bool.{Bool, true, false, true≢false, false≢true}
 use lib.Dec.{T}
 use lib.Ieee.{Float, binary64, fits, lt}
