@@ -3,7 +3,7 @@ use Prim.Native.Nat.{ℕ, _-_, _≤_, _%_}
 use native.Mathlib.Nat.{le-trans}
 use native.Mathlib.Omega.{arith}
 use mathlib.Core.Path.{_≡_, refl, sym, ap, subst, _∙_}
-use mathlib.Core.Bool.{Bool, true, false, _&&_}
+use mathlib.Core.Bool.{Bool, true, false}
 use mathlib.Core.List.{List, []}
 use borrow.Author.Tests.{eqb-true, eqb-false}
 use lib.Dec.{T, eqb, ltb}
@@ -14,7 +14,7 @@ use Rattle.coo3d.specs.Points.{ofDoubles}
 use Rattle.cost.specs.RangeCount.{rangeCountOf, numberOr0}
 use Rattle.domain.specs.Checks.{pointAt}
 use Rattle.domain.proofs.Handed.{Settled, handed-again}
-use Rattle.domain.proofs.Inside.{settled-finite, settled-placed, each-double}
+use Rattle.domain.proofs.Inside.{double-lon, settled-finite, settled-placed, each-double}
 use Rattle.float.specs.Doubles.{nought, twoPi, isFinite}
 use Rattle.float.proofs.Ordered.{not-beyond}
 use Rattle.lists.specs.Counts.{howMany, isOdd}
@@ -82,10 +82,7 @@ abbrev pub Placed : Coo3D → Type 0
 Placed c = Longitude (c .lon) × T (fits binary64 (c .lon))
 
 pub placed : (c : Coo3D) → Settled c → ofDoubles c ≡ true → Placed c
-placed c s d =
-    let xyz = fits binary64 (c .x) && fits binary64 (c .y) && fits binary64 (c .z) in
-    let lons = both xyz (fits binary64 (c .lon)) (both (xyz && fits binary64 (c .lon)) (fits binary64 (c .lat)) d .0) in
-    (longitude c s, subst T (sym (lons .1)) tt)
+placed c s d = (longitude c s, double-lon c d)
 
 module _ (q : Coo3D) (l : Longitude (q .lon)) where
   abbrev side : Coo3D → Bool

@@ -1,10 +1,11 @@
 -- Lists of points that the checks take, and of what they hand back.
 use Prim.Native.Nat.{ℕ, suc, _≤_, _<_}
 use native.Mathlib.Omega.{arith}
-use mathlib.Core.Path.{_≡_, refl, ap, subst, _∙_}
+use mathlib.Core.Path.{_≡_, refl, sym, ap, subst, _∙_}
 use mathlib.Core.Bool.{true, _&&_}
 use mathlib.Core.List.{List, [], _∷_}
-use lib.Ieee.{neg}
+use lib.Dec.{T}
+use lib.Ieee.{binary64, fits, neg}
 use lib.ListN.{length, take}
 use lib.Seq.{take-length}
 use Rattle.float.specs.Doubles.{isFinite, inclusive, nought, two, halfPi, twoPi}
@@ -49,6 +50,11 @@ pub all-doubles : {cs : List Coo3D} → All (λ c. ofDoubles c ≡ true) cs → 
 unfolding areDoubles
 all-doubles none = refl
 all-doubles (more h t) = rw (h, all-doubles t)
+
+pub double-lon : (c : Coo3D) → ofDoubles c ≡ true → T (fits binary64 (c .lon))
+double-lon c d =
+    let xyz = fits binary64 (c .x) && fits binary64 (c .y) && fits binary64 (c .z) in
+    subst T (sym (both xyz (fits binary64 (c .lon)) (both (xyz && fits binary64 (c .lon)) (fits binary64 (c .lat)) d .0) .1)) tt
 
 -- ---- from an answer
 

@@ -36,7 +36,7 @@ beyond-pi (fin true m e) = go (ltb 0 (m * up e * down e + m * up e * down e)) re
 
 -- ---- a step and PI
 
-finite-pi : (isFinite pi ≡ true) × (isFinite (neg pi) ≡ true)
+pub finite-pi : (isFinite pi ≡ true) × (isFinite (neg pi) ≡ true)
 unfolding neg ofBits
 finite-pi = (refl, refl)
 

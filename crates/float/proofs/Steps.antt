@@ -13,6 +13,7 @@ use lib.Ieee.Fits.{down-pos}
 use lib.Ieee.Order.{round-mono}
 use Rattle.float.specs.Doubles.{_⊖_, nought, pi, twoPi, absOf, isFinite}
 use Rattle.float.proofs.Finite.{Signed, round-signed}
+use Rattle.float.proofs.Magnitude.{finite-pi}
 use Rattle.float.proofs.Ordered.{below-higher, not-beyond}
 use Rattle.float.proofs.Signs.{round-neg, below-nought}
 
@@ -123,13 +124,9 @@ below-at-least (fin s m e) (fin t n d) (inf true) f g h = absurd h
 below-at-least (fin s m e) (fin t n d) (inf false) f g h = refl
 below-at-least (fin s m e) (fin t n d) (fin u k c) f g h = below-higher (fin s m e) (fin t n d) (fin u k c) refl refl refl g (not-beyond (fin t n d) (fin u k c) refl refl (is-true _ h))
 
-finite-pi : isFinite pi ≡ true
-unfolding ofBits
-finite-pi = refl
-
 -- a larger fraction is rounded beyond PI where a smaller one is
 larger : (n c k d : ℕ) → 0 < c → 0 < d → n * d ≤ k * c → lt pi (round binary64 false n c) ≡ true → lt pi (round binary64 false k d) ≡ true
-larger n c k d C D h g = below-at-least pi (round binary64 false n c) (round binary64 false k d) finite-pi g (round-mono binary64 n c k d C D h)
+larger n c k d C D h g = below-at-least pi (round binary64 false n c) (round binary64 false k d) (finite-pi .0) g (round-mono binary64 n c k d C D h)
 
 -- PI is P / Q
 abbrev P : ℕ
@@ -154,7 +151,7 @@ truly n c C g = go (ltb (P * c) (n * Q)) refl
     go true e = ltb-true (P * c) (n * Q) e
     go false e =
         let at-most : T (le (round binary64 false n c) (round binary64 false P Q)) = round-mono binary64 n c P Q C (omega arith) (ltb-false (P * c) (n * Q) e) in
-        absurd (true≢false (sym (below-at-least pi (round binary64 false n c) pi finite-pi g (subst (λ (u : Float). T (le (round binary64 false n c) u)) round-pi at-most)) ∙ pi-itself))
+        absurd (true≢false (sym (below-at-least pi (round binary64 false n c) pi (finite-pi .0) g (subst (λ (u : Float). T (le (round binary64 false n c) u)) round-pi at-most)) ∙ pi-itself))
 
 -- ---- from p / a over q / b to r / c, in this order
 

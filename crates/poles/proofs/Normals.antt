@@ -1,6 +1,6 @@
 -- Corners of a made region, and the normal of an edge between two: finite, doubles, and not turned south.
-use mathlib.Core.Path.{_≡_, refl, sym, subst}
-use mathlib.Core.Bool.{Bool, true, false, _&&_, cond}
+use mathlib.Core.Path.{_≡_, refl}
+use mathlib.Core.Bool.{Bool, true, false, cond}
 use lib.Dec.{T}
 use lib.Ieee.{Float, binary64, fits, neg, lt}
 use lib.Ieee.Fits.{sub-fits, neg-fits}
@@ -12,8 +12,7 @@ use Rattle.coo3d.specs.declared.Vect3.{Vect3}
 use Rattle.coo3d.specs.Points.{ofDoubles}
 use Rattle.coo3d.specs.Vectors.{vectOfPoint, crossOf, oppositeOf}
 use Rattle.domain.proofs.Handed.{Settled}
-use Rattle.domain.proofs.Inside.{settled-finite, settled-placed}
-use Rattle.lists.proofs.All.{both}
+use Rattle.domain.proofs.Inside.{double-lon, settled-finite, settled-placed}
 use Rattle.region.specs.Edges.{northward, normalOf}
 
 pub record Corner (c : Coo3D) : Type 0 where
@@ -26,9 +25,7 @@ pub record Corner (c : Coo3D) : Type 0 where
 pub corner-of : (c : Coo3D) → Settled c → ofDoubles c ≡ true → Corner c
 corner-of c s d =
     let p = settled-placed c s in
-    let xyz = fits binary64 (c .x) && fits binary64 (c .y) && fits binary64 (c .z) in
-    let lons = both xyz (fits binary64 (c .lon)) (both (xyz && fits binary64 (c .lon)) (fits binary64 (c .lat)) d .0) in
-    record { x = within-two (c .x) (p .x); y = within-two (c .y) (p .y); z = within-two (c .z) (p .z); lon = settled-finite c s .lon; held = subst T (sym (lons .1)) tt }
+    record { x = within-two (c .x) (p .x); y = within-two (c .y) (p .y); z = within-two (c .z) (p .z); lon = settled-finite c s .lon; held = double-lon c d }
 
 pub record Northern (n : Vect3) : Type 0 where
   pub x : isFinite (n .x) ≡ true
