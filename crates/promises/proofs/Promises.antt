@@ -9,7 +9,10 @@ use Rattle.poles.proofs.Poles.{poles}
 use Rattle.region.proofs.Made.{build-made, seams-made}
 use Rattle.region_file.proofs.Made.{read-made}
 use Rattle.region_file.proofs.RoundTrips.{read-written, write-read}
+use Rattle.root.proofs.Grow.{grows}
+use Rattle.root.proofs.Laws.{every-width}
 use Rattle.root.proofs.Rounded.{sqrt-rounded, one-rounded}
+use Rattle.root.proofs.WholeRoots.{whole-rooted}
 use Rattle.promises.specs.Promises.{Promises}
 
 pub promises : Promises
@@ -17,6 +20,9 @@ promises =
     record {
       sqrt-rounded = sqrt-rounded;
       one-rounded = one-rounded;
+      root-grows = grows;
+      root-every-width = every-width;
+      whole-rooted = whole-rooted;
       first-is-head = first-is-head;
       read-written = read-written;
       write-read = write-read;

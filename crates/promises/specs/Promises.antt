@@ -1,6 +1,6 @@
 -- What is promised beyond the contracts of the single calls: a reviewer's first page. Each field is a theorem, spelled out; the definitions that it
 -- names stand in the crates' specs/. Every theorem joins here, with a wrong edit of its line in must-fail/.
-use Prim.Native.Nat.{ℕ, _-_, _≤_, _<_}
+use Prim.Native.Nat.{ℕ, _+_, _-_, _*_, _^_, _≤_, _<_}
 use mathlib.Core.Path.{_≡_}
 use mathlib.Core.Bool.{true}
 use mathlib.Core.List.{List, _++_}
@@ -36,11 +36,20 @@ use Rattle.region.specs.View.{View, viewOf, seamsOf}
 use Rattle.region_file.specs.File.{fileLength, fileOf, readOf}
 use Rattle.root.specs.Root.{sqrtOf}
 use Rattle.root.specs.Rounded.{Rounded}
+use Rattle.root.specs.Whole.{IsRoot, rootIn, nextDigit}
+use Rattle.root.specs.WholeRoot.{WholeRooted}
 
 pub record Promises : Type 0 where
   -- The root of every positive finite double is rounded as document 01 asks, and no other double is.
   pub sqrt-rounded : (a : Float) → T (fits binary64 a) → T (positive a) → Rounded a (sqrtOf a)
   pub one-rounded : (a r t : Float) → T (fits binary64 r) → T (fits binary64 t) → Rounded a r → Rounded a t → r ≡ t
+  -- A whole root grows by a binary digit as its number grows by a digit in base four, so there is one for numbers of every width: the float root rests on it at 54 digits,
+  -- the whole root at 32.
+  pub root-grows : (n s r d : ℕ) → d < 4 → IsRoot n s r → IsRoot (4 * n + d) (2 * s + nextDigit s (4 * r + d)) (4 * r + d - (4 * s + 1) * nextDigit s (4 * r + d))
+  pub root-every-width : (w n : ℕ) → n < 4 ^ w → IsRoot n (rootIn w n) (n - rootIn w n * rootIn w n)
+  -- The whole root of every unsigned 64-bit number, in `WholeRooted`: its square plus the remainder is the number, the remainder is at most twice the root, no other pair has both properties, and no
+  -- larger number has its square within the number.
+  pub whole-rooted : (n : ℕ) → n < 2 ^ 64 → WholeRooted n
   -- Where no call is refused, an arc's first answer is the head of its list, or none.
   pub first-is-head : (v : View) (a b : Coo3D) (first all : List UnitVect3) → arcFirstOf v a b ≡ answered first → arcAllOf v a b ≡ answered all → first ≡ take 1 all
   -- Reading what was written, whatever bytes stand in front, gives the region built afresh from its corners and flag.

@@ -6,31 +6,38 @@ use Prim.Native.Nat.{ℕ, zero, suc, _+_, _-_, _*_, _/_, _%_, _^_, _≤_, _<_}
 use native.Mathlib.Nat.{pow-succ', lt-of-not-le, le-of-suc-le-suc, mul-le-mul}
 use native.Mathlib.Omega.{arith}
 use lib.Dec.{T, leb, leb→le, nleb→lt}
-use Rattle.root.specs.Whole.{IsRoot, lift, rootIn, nearRoot}
-use Rattle.root.proofs.Grow.{stays, lifts, next-square, double-square, squares-mono, one-root}
+use Rattle.root.specs.Whole.{IsRoot, lift, rootIn, nearRoot, nextDigit, EveryWidth}
+use Rattle.root.proofs.Grow.{grows, same-root, next-square, double-square, squares-mono, one-root}
 
-abbrev Rooted : ℕ → ℕ → Type 0
-Rooted n s = (r : ℕ) × IsRoot n s r
-
--- one step of `rootIn`
-grown : (n s : ℕ) → Rooted (n / 4) s → Rooted n (lift (2 * s) n)
-grown n s (q, h) = go (leb ((2 * s + 1) * (2 * s + 1)) n) (leb→le ((2 * s + 1) * (2 * s + 1)) n) (nleb→lt ((2 * s + 1) * (2 * s + 1)) n)
+-- one step of `rootIn` is the growth by a digit
+grown : (n s r : ℕ) → IsRoot (n / 4) s r → lift (2 * s) n ≡ 2 * s + nextDigit s (4 * r + n % 4)
+grown n s r h = go (leb ((2 * s + 1) * (2 * s + 1)) n) (leb (4 * s + 1) (4 * r + n % 4))
+    (leb→le ((2 * s + 1) * (2 * s + 1)) n) (nleb→lt ((2 * s + 1) * (2 * s + 1)) n) (leb→le (4 * s + 1) (4 * r + n % 4)) (nleb→lt (4 * s + 1) (4 * r + n % 4))
   where
+    go : (b c : Bool) → (T b → (2 * s + 1) * (2 * s + 1) ≤ n) → (T (not b) → n < (2 * s + 1) * (2 * s + 1)) → (T c → 4 * s + 1 ≤ 4 * r + n % 4) → (T (not c) → 4 * r + n % 4 < 4 * s + 1)
+        → cond b (2 * s + 1) (2 * s) ≡ 2 * s + cond c 1 0
+    go true true p q p′ q′ = refl
+    go true false p q p′ q′ = omega (arith, p tt, q′ tt, next-square (2 * s), double-square s, h .square)
+    go false true p q p′ q′ = omega (arith, q tt, p′ tt, next-square (2 * s), double-square s, h .square)
+    go false false p q p′ q′ = omega arith
+
+-- the remainder of a root is what its square leaves
+left-of : {n s r : ℕ} → IsRoot n s r → IsRoot n s (n - s * s)
+left-of h = same-root refl (omega (arith, h .square)) h
+
+step : (n s r : ℕ) → IsRoot (n / 4) s r → IsRoot n (lift (2 * s) n) (n - lift (2 * s) n * lift (2 * s) n)
+step n s r h = left-of (same-root (grown n s r h) refl (subst (λ (x : ℕ). IsRoot x (2 * s + next) (4 * r + n % 4 - (4 * s + 1) * next)) whole (grows (n / 4) s r (n % 4) (omega arith) h)))
+  where
+    next : ℕ
+    next = nextDigit s (4 * r + n % 4)
+
     whole : 4 * (n / 4) + n % 4 ≡ n
     whole = omega arith
 
-    go : (b : Bool) → (T b → (2 * s + 1) * (2 * s + 1) ≤ n) → (T (not b) → n < (2 * s + 1) * (2 * s + 1)) → Rooted n (cond b (2 * s + 1) (2 * s))
-    go true k l =
-        let g = k tt in
-        (4 * q + n % 4 - (4 * s + 1), subst (λ (x : ℕ). IsRoot x (2 * s + 1) (4 * q + n % 4 - (4 * s + 1))) whole (lifts (n % 4) h (omega arith) (omega (arith, next-square (2 * s), double-square s, h .square))))
-    go false k l =
-        let g = l tt in
-        (4 * q + n % 4, subst (λ (x : ℕ). IsRoot x (2 * s) (4 * q + n % 4)) whole (stays (n % 4) h (omega (arith, next-square (2 * s), double-square s, h .square))))
-
-pub rootIn-is : (d n : ℕ) → n < 4 ^ d → Rooted n (rootIn d n)
+pub every-width : EveryWidth
 unfolding rootIn
-rootIn-is zero n h = (0, record { square = omega arith; small = omega arith })
-rootIn-is (suc d) n h = grown n (rootIn d (n / 4)) (rootIn-is d (n / 4) (omega (arith, pow-succ' 4 d)))
+every-width zero n h = record { square = omega arith; small = omega arith }
+every-width (suc w) n h = step n (rootIn w (n / 4)) _ (every-width w (n / 4) (omega (arith, pow-succ' 4 w)))
 
 lift-le : (s n : ℕ) → lift s n ≤ s + 1
 lift-le s n = go (leb ((s + 1) * (s + 1)) n)
@@ -100,9 +107,9 @@ parity q = go (q % 2) refl
 -- the two inequalities
 pub near-root : (A : ℕ) → 0 < A → A < 2 ^ 106 → ((2 * nearRoot A - 1) * (2 * nearRoot A - 1) < 4 * A) × (4 * A < (2 * nearRoot A + 1) * (2 * nearRoot A + 1))
 near-root A p l =
-    let k = rootIn-is 54 (4 * A) (below-four A l) in
+    let k = every-width 54 (4 * A) (below-four A l) in
     subst (λ (R : ℕ). ((2 * R - 1) * (2 * R - 1) < 4 * A) × (4 * A < (2 * R + 1) * (2 * R + 1))) (sym (near-is A))
-    (elim (parity (rootIn 54 (4 * A))) [ inl e ↦ even-case (k .1) p ((rootIn 54 (4 * A) + 1) / 2) e | inr e ↦ odd-case (k .1) p ((rootIn 54 (4 * A) + 1) / 2) e ])
+    (elim (parity (rootIn 54 (4 * A))) [ inl e ↦ even-case k p ((rootIn 54 (4 * A) + 1) / 2) e | inr e ↦ odd-case k p ((rootIn 54 (4 * A) + 1) / 2) e ])
 
 -- how large it is
 reaches : {A q r : ℕ} → IsRoot (4 * A) q r → 2 ^ 104 ≤ A → 2 ^ 53 ≤ q
@@ -121,12 +128,15 @@ stops {A} {q} {r} h l = le-of-suc-le-suc (lt-of-not-le (λ (g : 2 ^ 54 - 1 ≤ q
 
 pub near-range : (A : ℕ) → 2 ^ 104 ≤ A → A ≤ 2 ^ 106 - 2 ^ 53 → (2 ^ 52 ≤ nearRoot A) × (nearRoot A < 2 ^ 53)
 near-range A g l =
-    let k = rootIn-is 54 (4 * A) (below-four A (omega arith)) in
-    let a = reaches (k .1) g in
-    let b = stops (k .1) l in
+    let k = every-width 54 (4 * A) (below-four A (omega arith)) in
+    let a = reaches k g in
+    let b = stops k l in
     let e = near-is A in
     (omega (arith, a, b, e), omega (arith, a, b, e))
 
 -- what a whole root of 4 A rounds to
 pub nearest-is : {A q r : ℕ} → A < 2 ^ 106 → IsRoot (4 * A) q r → (q + 1) / 2 ≡ nearRoot A
-nearest-is {A} {q} {r} l h = ap (λ (x : ℕ). (x + 1) / 2) (one-root h (rootIn-is 54 (4 * A) (below-four A l) .1)) ∙ sym (near-is A)
+nearest-is {A} {q} {r} l h = ap (λ (x : ℕ). (x + 1) / 2) (one-root h (every-width 54 (4 * A) (below-four A l))) ∙ sym (near-is A)
+
+pub root-short : {A q r : ℕ} → A < 2 ^ 106 → IsRoot (4 * A) q r → q < 2 ^ 54
+root-short {A} {q} {r} l h = subst (λ (x : ℕ). x < 2 ^ 54) (sym (one-root h (every-width 54 (4 * A) (below-four A l)))) (rootIn-lt 54 (4 * A))

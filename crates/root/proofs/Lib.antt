@@ -6,3 +6,4 @@ pub mod Units
 pub mod Bits
 pub mod Rounded
 pub mod Worked
+pub mod WholeRoots

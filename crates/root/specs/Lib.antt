@@ -1,3 +1,4 @@
 pub mod Whole
+pub mod WholeRoot
 pub mod Root
 pub mod Rounded

@@ -1,8 +1,16 @@
-// The correctly rounded root of an f64, which upstream takes from `f64::sqrt`: from the operand's bits, over whole numbers.
+// The correctly rounded root of an f64, which upstream takes from `f64::sqrt`, from the operand's bits; and the whole root of a u64. Both over
+// whole numbers, with no division but by powers of two.
 ghost use mathlib.Core.Path.{_≡_};
 ghost use Prim.Native.Nat.{_+_, _*_, _/_, _%_, _^_, _≤_, _<_};
 ghost use Rattle.root.specs.Root.{sqrtOf};
-ghost use Rattle.root.specs.Whole.{nearRoot};
+ghost use Rattle.root.specs.Whole.{IsRoot, nearRoot};
+ghost use Rattle.root.specs.WholeRoot.{wholeRootOf};
+
+// The largest whole number whose square is not above a number, and what the square leaves of it.
+pub struct WholeRoot {
+    pub root: u64,
+    pub remainder: u64,
+}
 
 // Near 2 ^ 31 times the inverse of a root, a straight line for each 64th of an octave: its start in five hexadecimal digits, and in the last
 // three its fall in 8192 steps. Nothing is proved of the lines: `checked` tests what they lead to. The compiler makes a table of the arms,
@@ -186,25 +194,36 @@ fn checked(n: u64, y: u32) -> u64
     0
 }
 
-// The same where no guess is near enough, by the binary digits of the root of n * 2 ^ 54: a digit for each two of the number, whose last 54
-// are zeros, and the last digit rounds.
-fn by_digits(n: u64) -> u64
-    requires { ⌜ n < 2 ^ 54 ⌝ }
-    ensures { λ r. ⌜ r ≡ nearRoot (n * 2 ^ 52) ⌝ }
+// The first `width` binary digits of the root of n, where n is taken as 32 digits in base four with zeros behind them, and what is left: each
+// digit of the number gives one of the root.
+fn digits(n: u64, width: u64) -> WholeRoot
+    requires { ⌜ width ≤ 54 ⌝ }
+    ensures { λ r. ⌜ IsRoot (n * 4 ^ width / 2 ^ 64) (r .root) (r .remainder) ⌝ }
 {
     let mut root: u64 = 0;
     let mut left: u64 = 0;
     let mut rest = n;
     let mut i: u64 = 0;
-    while i < 54 {
-        let t = left * 4 + rest / 0x10_0000_0000_0000;
+    while i < width {
+        let t = left * 4 + rest / 0x4000_0000_0000_0000;
         let o = (root * 4 < t) as u64;
         left = t - (root * 4 + 1) * o;
         root = root * 2 + o;
-        rest = rest % 0x10_0000_0000_0000 * 4;
+        rest = rest % 0x4000_0000_0000_0000 * 4;
         i += 1;
     }
-    (root + 1) / 2
+    WholeRoot {
+        root,
+        remainder: left,
+    }
+}
+
+// The whole number nearest to the root of n * 2 ^ 52 where no guess is near enough: the last of 54 digits rounds.
+fn by_digits(n: u64) -> u64
+    requires { ⌜ n < 2 ^ 54 ⌝ }
+    ensures { λ r. ⌜ r ≡ nearRoot (n * 2 ^ 52) ⌝ }
+{
+    (digits(n * 1024, 54).root + 1) / 2
 }
 
 fn nearest(n: u64, y: u32) -> u64
@@ -253,4 +272,129 @@ pub fn sqrt(a: f64) -> f64
     let z = u64::leading_zeros(b) as u64;
     let m = b << (z - 11);
     f64::from_bits(finite(m, 63 - z, m + (63 - z) * 0x10_0000_0000_0000))
+}
+
+// The roots of 16 k and the 15 numbers after it, k below 16, four bits each.
+fn roots(k: u64) -> u64 {
+    match k {
+        0 => 0x3333_3332_2222_1110,
+        1 => 0x5555_5554_4444_4444,
+        2 => 0x6666_6666_6666_5555,
+        3 => 0x7777_7777_7777_7776,
+        4 => 0x8888_8888_8888_8888,
+        5 => 0x9999_9999_9999_9998,
+        6 => 0xaaaa_aaaa_aaaa_9999,
+        7 => 0xbbbb_bbba_aaaa_aaaa,
+        8 => 0xbbbb_bbbb_bbbb_bbbb,
+        9 => 0xcccc_cccc_cccc_cccc,
+        10 => 0xdddd_dddc_cccc_cccc,
+        11 => 0xdddd_dddd_dddd_dddd,
+        12 => 0xeeee_eeee_eeee_dddd,
+        13 => 0xeeee_eeee_eeee_eeee,
+        14 => 0xffff_ffff_ffff_fffe,
+        _ => 0xffff_ffff_ffff_ffff,
+    }
+}
+
+// Near 2 ^ 32 times the inverse of the root of x, a curve for each 16th of x from 1 to 4, in units of 2 ^ 11: where it starts, in the first digits; in five its
+// fall, as it begins; and in the last three by how much less it falls at the end. Nothing is proved of them either.
+fn curve(k: u64) -> u64 {
+    match k {
+        16 => 0x1ffff2_0ffad_b1e,
+        17 => 0x1f0b5c_0e97b_999,
+        18 => 0x1e2b73_0d652_859,
+        19 => 0x1d5d75_0c5a5_752,
+        20 => 0x1c9f1d_0b706_675,
+        21 => 0x1bee89_0aa20_5bc,
+        22 => 0x1b4a22_09eaa_51e,
+        23 => 0x1ab094_09472_498,
+        24 => 0x1a20b8_08b45_423,
+        25 => 0x199994_08300_3be,
+        26 => 0x191a51_07b87_367,
+        27 => 0x18a230_074ba_319,
+        28 => 0x18308e_06e8a_2d6,
+        29 => 0x17c4d9_068de_299,
+        30 => 0x175e93_063ab_264,
+        31 => 0x16fd4b_05ee4_235,
+        32 => 0x16a09b_05a7a_20a,
+        33 => 0x16482a_05666_1e4,
+        34 => 0x15f3a7_0529e_1c2,
+        35 => 0x15a2ca_04f19_1a2,
+        36 => 0x155552_04bd4_186,
+        37 => 0x150b04_048c8_16d,
+        38 => 0x14c3a9_045ed_156,
+        39 => 0x147f11_04340_140,
+        40 => 0x143d11_040c0_12d,
+        41 => 0x13fd7e_03e65_11b,
+        42 => 0x13c034_03c2f_10b,
+        43 => 0x138510_03a18_0fc,
+        44 => 0x134bf4_03820_0ee,
+        45 => 0x1314c1_03643_0e1,
+        46 => 0x12df5e_03481_0d5,
+        47 => 0x12abb2_032d7_0ca,
+        48 => 0x1279a5_03143_0c0,
+        49 => 0x124922_02fc2_0b6,
+        50 => 0x121a16_02e55_0ad,
+        51 => 0x11ec6e_02cfa_0a5,
+        52 => 0x11c018_02baf_09d,
+        53 => 0x119506_02a75_096,
+        54 => 0x116b27_02948_08f,
+        55 => 0x11426e_0282b_08a,
+        56 => 0x111acd_02718_083,
+        57 => 0x10f438_02611_07d,
+        58 => 0x10cea4_02516_078,
+        59 => 0x10aa06_02426_073,
+        60 => 0x108653_02340_06e,
+        61 => 0x106381_02263_06a,
+        62 => 0x104188_0218e_065,
+        _ => 0x10205f_020c2_061,
+    }
+}
+
+// The whole root of n, or one less. Nothing is proved of it: `whole_root` tests it.
+fn guess(n: u64) -> u32 {
+    if n < 256 {
+        return ((roots(n / 16) >> (n % 16 * 4)) % 16) as u32;
+    }
+    // One more than n has. Those of n itself, of which the compiler knows that it is not 0, it would count on x86-64 with an instruction that waits for the last value
+    // of its register.
+    let zeros = u64::leading_zeros(n / 2) as u64;
+    let up = (zeros - 1) / 2;
+    // x * 2 ^ 62, for an x from 1 to 4. Taking remainders below changes nothing where the curve is right, and bounds what is multiplied.
+    let m = n << (up * 2);
+    let c = curve(m >> 58);
+    let o = ((m >> 44) % 0x4000) as u32;
+    let fall = std::num::wrapping_sub_u32(
+        ((c >> 12) % 0x10_0000) as u32,
+        o * ((c % 0x1000) as u32) >> 14,
+    )
+        % 0x2_0000;
+    let y = std::num::wrapping_sub_u32((c >> 32) as u32, o * fall >> 14) % 0x20_0000 * 0x800;
+    // The root of m by y to 17 bits, and then by what that leaves, times y.
+    let g = ((product((m >> 32) as u32, y) >> 31) % 0x1_0000_0000) as u32;
+    let left = std::num::wrapping_sub_u64(m, product(g, g));
+    let more = product(((left >> 18) % 0x1_0000_0000) as u32, y) >> 46;
+    (((g as u64 + more) >> up) % 0x1_0000_0000) as u32
+}
+
+// The whole root, as `u64::isqrt` has it, and the remainder.
+pub fn whole_root(n: u64) -> WholeRoot
+    ensures { λ r. ⌜ r ≡ wholeRootOf n ⌝ }
+{
+    let s = guess(n);
+    let root = s as u64;
+    let square = product(s, s);
+    if square <= n {
+        let remainder = n - square;
+        if remainder <= root * 2 {
+            return WholeRoot { root, remainder };
+        }
+        if remainder <= root * 4 + 3 {
+            return WholeRoot {
+                root: root + 1,
+                remainder: remainder - (root * 2 + 1),
+            };
+        }
+    }
+    digits(n, 32)
 }
