@@ -7,7 +7,7 @@ COUNT ?= 200000
 LISTS ?= 10000
 PREFIX ?= /usr/local
 
-.PHONY: help setup setup-c demo lib camera install dist test doors camera-test flips differential lists fixed-list bench camera-bench dearest camera-dearest
+.PHONY: help setup setup-c demo lib camera install dist test doors camera-test flips differential lists roots fixed-list bench camera-bench dearest camera-dearest
 
 help:
 	@echo 'make demo          runs the example: makes a region file, draws its map by asking the C function, tells which fixes are inside'
@@ -21,6 +21,7 @@ help:
 	@echo 'make flips         counts what single flipped bits of the example file do'
 	@echo 'make differential  SEED=n COUNT=n: compares that many requests with upstream'
 	@echo 'make lists         SEED=n LISTS=n: compares that many lists of 1 to 200 edits with upstream'
+	@echo "make roots         SEED=n COUNT=n: compares that many whole roots with Rust's u64::isqrt"
 	@echo 'make bench         measures the calls beside upstream and writes docs/BENCHMARKS.md; no test'
 	@echo 'make bench ROWS=x  prints the times of the rows whose names contain x, and writes nothing'
 	@echo 'make camera-bench  counts instructions and cycles on the emulated core, for docs/CAMERA.md; no test'
@@ -81,6 +82,9 @@ differential: setup
 
 lists: setup
 	@tests/differential '$(UPSTREAM)' '$(SEED)' '$(LISTS)' edits
+
+roots: setup
+	@tests/differential '$(UPSTREAM)' '$(SEED)' '$(COUNT)' roots
 
 fixed-list: setup
 	@tests/fixed-list '$(UPSTREAM)'

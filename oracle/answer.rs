@@ -195,6 +195,12 @@ fn answer_one(call: Call, request: &[u64], kept: &mut Kept, answer: &mut Vec<u64
             answer.extend(words_of(&file));
         }
         Call::Root => answer.push(answered(double(request[0]).sqrt())),
+        // Upstream has none: the standard library's.
+        Call::WholeRoot => {
+            let n = request[0];
+            let root = n.isqrt();
+            answer.extend([root, n - root * root]);
+        }
         Call::ZoneNew => kept.zone = Some(zone_new(request)?),
         Call::ZoneRest => {
             let none = Refusal::Alone(status::ZONE_BOUNDS);

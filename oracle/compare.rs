@@ -93,7 +93,8 @@ impl<'a> Side<'a> {
 #[derive(Clone, Default)]
 struct Tally {
     count: u64,
-    /// By status; where there is none by what a door returned, or by class of the double.
+    /// By status; where there is none by what a door returned, by class of the double, or by
+    /// what is left of the whole root.
     outcomes: BTreeMap<u64, u64>,
     /// For each pole rule, how many requests there were and how many were not refused.
     rules: [(u64, u64); RULES.len()],
@@ -108,6 +109,7 @@ struct Tally {
 }
 
 const CLASSES: [&str; 4] = ["finite", "zero", "infinite", "NaN"];
+const REMAINDERS: [&str; 3] = ["a square", "one below a square", "neither"];
 
 impl Tally {
     fn add(&mut self, kind: &Kind, request: &[u64], answer: &[u64], region: &Kept) {
@@ -119,6 +121,11 @@ impl Tally {
                 FpCategory::Zero => 1,
                 FpCategory::Infinite => 2,
                 FpCategory::Nan => 3,
+            },
+            Outcome::WholeRoot => match answer {
+                [_, 0] => 0,
+                [root, remainder] if *remainder == 2 * root => 1,
+                _ => 2,
             },
         };
         *self.outcomes.entry(outcome).or_default() += 1;
@@ -164,6 +171,7 @@ impl Tally {
                 Outcome::Status => format!("status {outcome}: {count}"),
                 Outcome::Door => format!("returned {outcome}: {count}"),
                 Outcome::Double => format!("{}: {count}", CLASSES[outcome as usize]),
+                Outcome::WholeRoot => format!("{}: {count}", REMAINDERS[outcome as usize]),
             })
             .collect();
         print_row(
@@ -323,6 +331,7 @@ fn compare(requests: &str, a: &str, b: &str) -> Result<bool, String> {
                 | Call::DoorContains
                 | Call::DoorHold
                 | Call::Root
+                | Call::WholeRoot
                 | Call::ZoneNew
                 | Call::BoundingCone
                 | Call::RegionValue

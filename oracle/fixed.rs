@@ -1,5 +1,6 @@
-//! The requests of the fixed list that are not drawn: every outline that costs most, and the number
-//! of edges in range where a longitude, a count or a point may be taken wrongly.
+//! The requests of the fixed list that are not drawn: every outline that costs most, the number
+//! of edges in range where a longitude, a count or a point may be taken wrongly, and whole roots
+//! round squares.
 
 use std::io::{self, Write};
 
@@ -89,7 +90,31 @@ pub fn requests<W: Write>(out: &mut W) -> io::Result<()> {
         hand_in(out, 3, &corners)?;
         ask(out, &outline::ABREAST)?;
     }
+    for n in whole_roots() {
+        number(out, Call::WholeRoot)?;
+        write_word(out, n)?;
+    }
     out.flush()
+}
+
+/// 0 to 260; round the squares of the first, the last and a middle number of each length, the
+/// largest square among them, and round those of a half more; and the greatest number.
+fn whole_roots() -> Vec<u64> {
+    let mut all: Vec<u64> = (0..=260).collect();
+    for size in 5..=32 {
+        for side in [1 << (size - 1), 3 << (size - 2), (1 << size) - 1] {
+            let square: u64 = side * side;
+            all.extend([
+                square - 1,
+                square,
+                square + 1,
+                square + side,
+                square + side + 1,
+            ]);
+        }
+    }
+    all.extend([u64::MAX - 1, u64::MAX]);
+    all
 }
 
 fn number<W: Write>(out: &mut W, call: Call) -> io::Result<()> {

@@ -1,5 +1,6 @@
 //! generate SEED COUNT: writes COUNT requests to standard output, the same ones for the same seed.
 //! generate SEED COUNT edits: writes COUNT lists of edits instead, each with what it starts from.
+//! generate SEED COUNT roots: writes COUNT requests for whole roots alone.
 //! generate fixed: writes the requests of the fixed list that are not drawn (fixed.rs).
 //!
 //! Of a hundred requests outside a list (`CALL_SHARES`)
@@ -11,12 +12,12 @@
 //!   some a list of edits begins (`LIST_AFTER_BUILD`, `LIST_AFTER_FULL_BUILD`, `LIST_AFTER_READ`,
 //!   `LIST_AFTER_VALUE`, `LIST_AFTER_OUTLINE`), so that about six requests of ten stand in lists;
 //! - 3 ask for the region's seam count, and 3 for its file;
-//! - 14 are C doors: 7 contains, 7 hold;
+//! - 12 are C doors: 6 contains, 6 hold;
 //! - 9 ask whether a point is contained, 4 of them with the number of edges in range;
-//! - 12 are arcs: 5 first, 5 all, 2 is intersecting;
+//! - 10 are arcs: 4 first, 4 all, 2 is intersecting;
 //! - 4 are great circles;
 //! - 12 are parallels: 5 first, 5 all, 2 is intersecting;
-//! - 4 are roots, 4 new zones, 4 questions to the zone kept and 3 bounding cones.
+//! - 4 are roots, 4 whole roots, 4 new zones, 4 questions to the zone kept and 3 bounding cones.
 //!
 //! A list has 1 to 200 edits, whose shares stand in edits.rs. Of a hundred requests in it 40 are
 //! questions to the region (`QUESTION_SHARE`): 8 ask for the region, 4 for its seam count, 10
@@ -53,12 +54,13 @@ mod fixed;
 mod points;
 mod queries;
 mod regions;
+mod roots;
 
 use std::f64::consts::PI;
 use std::io::{self, BufWriter, Write};
 use std::process::ExitCode;
 
-use draw::{stepped, Class, Draw, LARGEST_SUBNORMAL, RAISED_NORTH, SMALLEST, SPECIAL};
+use draw::{stepped, Class, Draw, RAISED_NORTH, SMALLEST, SPECIAL};
 use edges::{Kept, Point};
 use edits::List;
 use points::{point_count, points, CountShare};
@@ -75,7 +77,7 @@ const CLASS_SHARES: [(Class, u64); 4] = [
     (Class::Raw, 10),
 ];
 
-const CALL_SHARES: [(Call, u64); 22] = [
+const CALL_SHARES: [(Call, u64); 23] = [
     (Call::Build, 12),
     (Call::RegionValue, 2),
     (Call::SeamedValue, 4),
@@ -83,8 +85,8 @@ const CALL_SHARES: [(Call, u64); 22] = [
     (Call::SeamCount, 3),
     (Call::Contains, 5),
     (Call::RangeCount, 4),
-    (Call::ArcFirst, 5),
-    (Call::ArcAll, 5),
+    (Call::ArcFirst, 4),
+    (Call::ArcAll, 4),
     (Call::IsIntersectingArc, 2),
     (Call::GreatCircleAll, 4),
     (Call::ParallelFirst, 5),
@@ -92,9 +94,10 @@ const CALL_SHARES: [(Call, u64); 22] = [
     (Call::IsIntersectingParallel, 2),
     (Call::WriteFile, 3),
     (Call::ReadFile, 8),
-    (Call::DoorContains, 7),
-    (Call::DoorHold, 7),
+    (Call::DoorContains, 6),
+    (Call::DoorHold, 6),
     (Call::Root, 4),
+    (Call::WholeRoot, 4),
     (Call::ZoneNew, 4),
     (Call::ZoneRest, 4),
     (Call::BoundingCone, 3),
@@ -201,120 +204,6 @@ const CONE_SHARES: [CountShare; 9] = [
     ((65, 65), 30),
     ((66, 80), 10),
 ];
-
-// Roots
-
-fn root(draw: &mut Draw, class: Class) -> f64 {
-    match class {
-        Class::Good => match draw.below(3) {
-            0 => draw.between(0.0, 4.0),
-            1 => draw.between(0.0, 1e6),
-            _ => any_exponent(draw),
-        },
-        Class::Borderline => match draw.below(10) {
-            0 => {
-                let side = draw.whole(1, 1 << 26) as f64;
-                let scale = 4f64.powi(draw.whole(0, 960) as i32 - 480);
-                draw.near(side * side * scale)
-            }
-            1 => {
-                let side = draw.below(1 << 26);
-                // A square in units of 2^−1074, which is an even power itself.
-                draw.near(f64::from_bits(side * side))
-            }
-            2 => draw.near(1.0),
-            3 => stepped(1.0, -(draw.whole(1, 4) as i64)),
-            4 => {
-                let exponent = draw.whole(1, 2046);
-                draw.near(f64::from_bits(exponent << 52))
-            }
-            5 => {
-                let exponent = draw.below(52);
-                draw.near(f64::from_bits(1 << exponent))
-            }
-            6 => near_midpoint(draw),
-            7 => nearest_to_midpoint(draw),
-            8 => draw.subnormal(),
-            _ => {
-                let edges = [f64::MAX, f64::MIN_POSITIVE, LARGEST_SUBNORMAL, 0.0, -0.0];
-                match draw.below(3) {
-                    0 => draw.near_one_of(&edges),
-                    1 => draw.near_one_of(&SPECIAL),
-                    _ => draw.pick(&SPECIAL),
-                }
-            }
-        },
-        Class::Damaged => match draw.below(4) {
-            0 => draw.nan(),
-            1 => -any_exponent(draw),
-            2 => -draw.subnormal(),
-            _ => draw.pick(&[f64::NEG_INFINITY, f64::INFINITY, -0.0, -1.0, f64::MIN]),
-        },
-        Class::Raw => draw.raw(),
-    }
-}
-
-/// A positive normal double.
-fn any_exponent(draw: &mut Draw) -> f64 {
-    let exponent = draw.whole(1, 2046);
-    f64::from_bits((exponent << 52) | (draw.word() >> 12))
-}
-
-/// The double nearest to (R + 1/2)² for some R of 53 bits, scaled, or a neighbour of it.
-fn near_midpoint(draw: &mut Draw) -> f64 {
-    let twice = u128::from(((1 << 52) | (draw.word() >> 12)) * 2 + 1);
-    let square = twice * twice; // four times (R + 1/2)²
-    let shift = if square >> 107 == 0 { 54 } else { 55 };
-    let significand = ((square >> (shift - 1)) as u64 + 1) >> 1;
-    // Rounded up to 2^53 it is no significand; its neighbour serves as well.
-    let a = scaled(draw, significand.min((1 << 53) - 1), shift);
-    draw.near(a)
-}
-
-/// A double whose root lies as near to a midpoint as any does: X² = 4A + c with a small c, where X
-/// is 2R + 1 and 4A a multiple of 2^shift. X is found digit by digit.
-fn nearest_to_midpoint(draw: &mut Draw) -> f64 {
-    loop {
-        let shift = draw.whole(54, 55);
-        let size = draw.below(16);
-        let eights = draw.below(1 << size) as i64;
-        // Only what is 1 modulo 8 is a square modulo 2^shift.
-        let c = if draw.percent(50) {
-            1 + 8 * eights
-        } else {
-            1 - 8 * eights
-        };
-        let mut x: u64 = 1;
-        for digit in 3..shift {
-            if (x.wrapping_mul(x) ^ c as u64) >> digit & 1 == 1 {
-                x += 1 << (digit - 1);
-            }
-        }
-        // One of the four roots.
-        if draw.percent(50) {
-            x = x.wrapping_neg();
-        }
-        if draw.percent(50) {
-            x = x.wrapping_add(1 << (shift - 1));
-        }
-        x &= (1 << shift) - 1;
-        let square = i128::from(x) * i128::from(x);
-        if square >> (shift + 52) == 1 {
-            return scaled(draw, ((square - i128::from(c)) >> shift) as u64, shift);
-        }
-    }
-}
-
-/// significand × 2^(shift − 2) × 2^(2k) for some k that keeps it a normal double.
-fn scaled(draw: &mut Draw, significand: u64, shift: u64) -> f64 {
-    let pairs = if draw.percent(50) {
-        draw.below(1023)
-    } else {
-        draw.whole(510, 513)
-    };
-    let exponent = 1 + 2 * pairs + (shift & 1);
-    f64::from_bits((exponent << 52) | (significand & ((1 << 52) - 1)))
-}
 
 // Zones
 
@@ -528,22 +417,18 @@ fn lon_inside(draw: &mut Draw, kept: &Bounds) -> f64 {
 
 fn main() -> ExitCode {
     let arguments: Vec<String> = std::env::args().skip(1).collect();
-    let (numbers, lists) = match arguments.as_slice() {
-        [numbers @ .., last] if last == "edits" => (numbers, true),
-        numbers => (numbers, false),
+    let words: Vec<&str> = arguments.iter().map(String::as_str).collect();
+    let run = |seed: &str, count: &str| Some((Run::new(seed.parse().ok()?), count.parse().ok()?));
+    let written = match *words {
+        ["fixed"] => Some(fixed::requests(&mut BufWriter::new(io::stdout().lock()))),
+        [seed, count] => run(seed, count).map(|(mut run, count)| run.requests(count)),
+        [seed, count, "edits"] => run(seed, count).map(|(mut run, count)| run.lists(count)),
+        [seed, count, "roots"] => run(seed, count).map(|(mut run, count)| run.whole_roots(count)),
+        _ => None,
     };
-    let numbers: Vec<u64> = numbers
-        .iter()
-        .map_while(|argument| argument.parse().ok())
-        .collect();
-    let written = match (arguments.as_slice(), numbers.as_slice()) {
-        ([only], _) if only == "fixed" => fixed::requests(&mut BufWriter::new(io::stdout().lock())),
-        (_, [seed, count]) if lists => Run::new(*seed).lists(*count),
-        (_, [seed, count]) => Run::new(*seed).requests(*count),
-        _ => {
-            eprintln!("usage: generate SEED COUNT, generate SEED COUNT edits, or generate fixed");
-            return ExitCode::from(2);
-        }
+    let Some(written) = written else {
+        eprintln!("usage: generate SEED COUNT, generate SEED COUNT edits, generate SEED COUNT roots, or generate fixed");
+        return ExitCode::from(2);
     };
     match written {
         Ok(()) => ExitCode::SUCCESS,
@@ -612,6 +497,14 @@ impl Run {
             if list.left == 0 && draw.percent(begins) {
                 list = List::mixed(draw);
             }
+        }
+        self.out.flush()
+    }
+
+    /// That many requests for whole roots.
+    fn whole_roots(&mut self, count: u64) -> io::Result<()> {
+        for _ in 0..count {
+            self.request(Call::WholeRoot)?;
         }
         self.out.flush()
     }
@@ -736,7 +629,8 @@ impl Run {
                 let aim = read.as_ref().unwrap_or(region);
                 write(out, &queries::point(draw, class, aim))?;
             }
-            Call::Root => write(out, &[root(draw, class)])?,
+            Call::Root => write(out, &[roots::root(draw, class)])?,
+            Call::WholeRoot => write_word(out, roots::whole(draw, class))?,
             Call::ZoneNew => {
                 let bounds = zone(draw, class);
                 write(out, &bounds)?;

@@ -147,6 +147,7 @@ pub enum Call {
     SeamedValue = 28,
     RangeCount = 30,
     CostliestOutline = 31,
+    WholeRoot = 32,
 }
 
 /// The calls that change the region kept; a refused one leaves it.
@@ -215,6 +216,8 @@ pub enum Outcome {
     Status,
     /// No status, a double at once.
     Double,
+    /// No status, a whole root and its remainder at once.
+    WholeRoot,
     /// No status, what a C door returned at once.
     Door,
 }
@@ -520,6 +523,13 @@ pub const KINDS: &[Kind] = &[
         request: &[Part::Number("n")],
         outcome: Outcome::Status,
         answer: POINT,
+    },
+    Kind {
+        call: Call::WholeRoot,
+        name: "whole root",
+        request: &[Part::Number("n")],
+        outcome: Outcome::WholeRoot,
+        answer: &[Part::Number("root"), Part::Number("remainder")],
     },
 ];
 

@@ -68,6 +68,8 @@ const CONTAINS_WITH_RANGE_COUNT: u64 = 30;
 
 const COSTLIEST_OUTLINE: u64 = 31;
 
+const WHOLE_ROOT: u64 = 32;
+
 // What is kept from one request to the next.
 struct State {
     region: Region,
@@ -135,6 +137,7 @@ fn ask(
         DOOR_CONTAINS => file_requests::door_contains(s, input, out),
         DOOR_HOLD => file_requests::door_hold(s, input, out),
         ROOT => shape_requests::root(s, input, out),
+        WHOLE_ROOT => shape_requests::whole_root(s, input, out),
         ASK_ZONE => shape_requests::ask_zone(s, input, out, z),
         BOUNDING_CONE => shape_requests::bounding_cone(s, input, out),
         _ => stream::end(s),

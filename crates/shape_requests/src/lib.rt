@@ -1,4 +1,4 @@
-// Requests that concern no region: zones, the bounding cone, the root.
+// Requests that concern no region: zones, the bounding cone, the roots.
 use cone::Cone;
 use cone::ConeAnswer;
 use coo3d::LonLat;
@@ -97,4 +97,11 @@ pub fn bounding_cone(s: Stream, input: &mut Buffer, out: &mut Buffer) -> Stream 
 pub fn root(s: Stream, input: &mut Buffer, out: &mut Buffer) -> Stream {
     let x = stream::get_double(s, input);
     stream::put_double(x.stream, out, root::sqrt(x.value))
+}
+
+pub fn whole_root(s: Stream, input: &mut Buffer, out: &mut Buffer) -> Stream {
+    let n = stream::get(s, input);
+    let w = root::whole_root(n.value);
+    let t = stream::put(n.stream, out, w.root);
+    stream::put(t, out, w.remainder)
 }
