@@ -311,3 +311,14 @@ pub fn radicands() -> Vec<f64> {
         .map(|_| draw.between(-40.0, 40.0).exp2())
         .collect()
 }
+
+/// Numbers of at most so many binary digits, or where none is said of at most 1 to 64, each as often.
+pub fn numbers(digits: Option<u32>) -> Vec<u64> {
+    let mut draw = Draw(4);
+    (0..ENTRIES)
+        .map(|_| {
+            let digits = digits.unwrap_or_else(|| draw.below(64) as u32 + 1);
+            draw.word() >> (64 - digits)
+        })
+        .collect()
+}

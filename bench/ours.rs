@@ -18,6 +18,7 @@ exported!((corners: Doubles, m: usize, normals: Doubles, n: usize, flag: u64, en
     bench_write);
 exported!((a: Doubles, m: usize, b: Doubles, n: usize): bench_idle_corners bench_build bench_cone bench_zone_questions);
 exported!((a: Doubles, m: usize): bench_root bench_root_chain bench_zone_new);
+exported!((numbers: *const u64, m: usize): bench_whole_root bench_whole_root_chain);
 exported!((files: *const u8, m: usize, len: usize, times: usize): bench_read);
 exported!((count: usize, corner: usize, number: u64): bench_costliest_outline);
 
@@ -136,6 +137,10 @@ pub fn two(f: OnTwo, a: &[f64], b: &[f64]) -> u64 {
 
 pub fn one(f: OnOne, a: &[f64]) -> u64 {
     unsafe { f(a.as_ptr(), a.len()) }
+}
+
+pub fn numbers(f: unsafe extern "C" fn(*const u64, usize) -> u64, numbers: &[u64]) -> u64 {
+    unsafe { f(numbers.as_ptr(), numbers.len()) }
 }
 
 pub fn costliest_outline(count: usize, corner: usize, number: u64) -> u64 {

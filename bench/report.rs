@@ -5,7 +5,7 @@ use std::collections::HashMap;
 use crate::dearest::MEASURES;
 use crate::inputs::{ASKED_COUNTS, OUTLINES};
 use crate::measure::{instructions, stack_of, times, Measured, Table};
-use crate::rows::{fresh_build, name_of, Row, Section, COPY, COSTLIEST, MOST, SEAM};
+use crate::rows::{fresh_build, name_of, Row, Section, COPY, COSTLIEST, ISQRT, MOST, SEAM};
 
 pub fn report(sections: &[Section], counts: &HashMap<String, f64>) {
     let rows: Vec<&Row> = sections.iter().flat_map(|section| &section.rows).collect();
@@ -203,6 +203,10 @@ fn goals(rows: &[&Row], times: &Table, counts: &Table, stacks: &HashMap<&str, us
             1.0
         };
         line(&row.name, most, &|of| ratio(of[&row.name]));
+    }
+    let whole = |row: &&&Row| row.name.starts_with("whole root") && row.name.contains(ISQRT);
+    for row in rows.iter().filter(whole) {
+        line(&row.name, 1.5, &|of| ratio(of[&row.name]));
     }
     let (name, deepest) = stacks.iter().max_by_key(|stack| stack.1).unwrap();
     let reached = if *deepest <= 32768 { "yes" } else { "no" };

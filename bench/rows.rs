@@ -70,6 +70,7 @@ pub fn sections() -> Vec<Section> {
         edits(full),
         files(full),
         roots(),
+        whole_roots(),
         zones_and_cones(&cases),
     ]
 }
@@ -468,6 +469,61 @@ fn roots() -> Section {
     ]);
     Section {
         title: "Root",
+        beside: "the other root",
+        rows,
+    }
+}
+
+/// Small, middle and large, and all sizes mixed.
+const SIZES: [(&str, Option<u32>); 5] = [
+    ("8 binary digits", Some(8)),
+    ("16 binary digits", Some(16)),
+    ("32 binary digits", Some(32)),
+    ("64 binary digits", Some(64)),
+    ("all sizes mixed", None),
+];
+
+pub const ISQRT: &str = "u64::isqrt";
+
+fn whole_roots() -> Section {
+    type Loop = fn(&[u64]) -> u64;
+    type Ours = unsafe extern "C" fn(*const u64, usize) -> u64;
+    let ways: [(&str, Ours, [(&str, Loop); 2]); 2] = [
+        (
+            "one after the other",
+            bench_whole_root_chain,
+            [
+                (ISQRT, theirs::whole_root_chain),
+                (
+                    "the hardware's, corrected",
+                    theirs::hardware_whole_root_chain,
+                ),
+            ],
+        ),
+        (
+            "many at once",
+            bench_whole_root,
+            [
+                (ISQRT, theirs::whole_root),
+                ("the hardware's, corrected", theirs::hardware_whole_root),
+            ],
+        ),
+    ];
+    let mut rows = Vec::new();
+    for (size, digits) in SIZES {
+        let values: &'static [u64] = leaked(inputs::numbers(digits));
+        for (way, ours, others) in ways {
+            for (other, run) in others {
+                rows.push(row(
+                    &format!("whole root beside {other}, {size}, {way}"),
+                    Box::new(move |n| numbers(ours, &values[..n])),
+                    Box::new(move |n| run(&values[..n])),
+                ));
+            }
+        }
+    }
+    Section {
+        title: "Whole root",
         beside: "the other root",
         rows,
     }

@@ -394,6 +394,53 @@ pub fn root_chain(values: &[f64]) -> u64 {
         .to_bits()
 }
 
+fn mix_whole_root(sum: u64, (root, remainder): (u64, u64)) -> u64 {
+    mix(mix(sum, root), remainder)
+}
+
+/// The standard library's.
+fn isqrt(n: u64) -> (u64, u64) {
+    let root = n.isqrt();
+    (root, n - root * root)
+}
+
+/// By the hardware's root of the number as a double, which is the whole root or one more.
+fn hardware_root(n: u64) -> (u64, u64) {
+    let root = ((n as f64).sqrt() as u64).min(u32::MAX.into());
+    match n.checked_sub(root * root) {
+        Some(remainder) => (root, remainder),
+        None => (root - 1, n - (root - 1) * (root - 1)),
+    }
+}
+
+#[inline(never)]
+pub fn whole_root(values: &[u64]) -> u64 {
+    values
+        .iter()
+        .fold(0, |sum, n| mix_whole_root(sum, isqrt(*n)))
+}
+
+#[inline(never)]
+pub fn whole_root_chain(values: &[u64]) -> u64 {
+    values
+        .iter()
+        .fold(0, |sum, n| mix_whole_root(0, isqrt(n ^ (sum % 2))))
+}
+
+#[inline(never)]
+pub fn hardware_whole_root(values: &[u64]) -> u64 {
+    values
+        .iter()
+        .fold(0, |sum, n| mix_whole_root(sum, hardware_root(*n)))
+}
+
+#[inline(never)]
+pub fn hardware_whole_root_chain(values: &[u64]) -> u64 {
+    values
+        .iter()
+        .fold(0, |sum, n| mix_whole_root(0, hardware_root(n ^ (sum % 2))))
+}
+
 #[inline(never)]
 pub fn zone_new(bounds: &[f64]) -> u64 {
     bounds.chunks_exact(5).fold(0, |sum, b| {

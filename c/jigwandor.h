@@ -130,9 +130,9 @@
 
 #include <stdint.h>
 
-#define JIGWANDOR_VERSION "0.4.0"
+#define JIGWANDOR_VERSION "0.5.0"
 #define JIGWANDOR_VERSION_MAJOR 0
-#define JIGWANDOR_VERSION_MINOR 4
+#define JIGWANDOR_VERSION_MINOR 5
 #define JIGWANDOR_VERSION_PATCH 0
 
 #ifdef __cplusplus

@@ -94,6 +94,22 @@ static void beside(void)
     LOOP(name "-16", bench_contains(REGION(set##_16), points_##set##_16, 5 * n));                                              \
     LOOP(name "-64", bench_contains(REGION(set##_64), points_##set##_64, 5 * n))
 
+/* Numbers of at most so many binary digits. */
+static uint64_t numbers[32];
+
+static void draw(uint32_t digits)
+{
+    uint64_t x = digits;
+    for (uint32_t i = 0; i < LEN(numbers); i++) {
+        x = x * 6364136223846793005 + 1442695040888963407;
+        numbers[i] = x >> (64 - digits);
+    }
+}
+
+#define WHOLE_ROOTS(digits)                                                                                                    \
+    draw(digits);                                                                                                              \
+    LOOP("whole-root-" #digits, bench_whole_root(numbers, n))
+
 int main(void)
 {
     calls("contains-4", "hold-4", file_4, sizeof file_4, points_4);
@@ -135,6 +151,10 @@ int main(void)
     LOOP("zone-new", bench_zone_new(bounds, 5 * n));
     LOOP("zone-questions", bench_zone_questions(bounds, LEN(bounds), triples, 3 * n));
     LOOP("root", bench_root(radicands, n));
+    WHOLE_ROOTS(8);
+    WHOLE_ROOTS(16);
+    WHOLE_ROOTS(32);
+    WHOLE_ROOTS(64);
     leave(0);
     return 0;
 }

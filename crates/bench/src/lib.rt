@@ -14,6 +14,7 @@ use refusal::Outcome;
 use region::ContainsSouthPoleMethod;
 use region::Region;
 use region_file::WriteAnswer;
+use root::WholeRoot;
 use zone::Zone;
 use zone::ZoneAnswer;
 
@@ -697,6 +698,37 @@ pub extern "C" fn bench_root_chain(values: &[f64]) -> u64 {
         x = root::sqrt(x + values[at]);
     }
     float::to_bits(x)
+}
+
+fn mix_whole_root(sum: u64, w: WholeRoot) -> u64 {
+    mix(mix(sum, w.root), w.remainder)
+}
+
+#[no_mangle]
+pub extern "C" fn bench_whole_root(values: &[u64]) -> u64 {
+    let mut sum: u64 = 0;
+    let n = values.len();
+    let mut i: usize = 0;
+    while i < n {
+        let at = i;
+        i += 1;
+        sum = mix_whole_root(sum, root::whole_root(values[at]));
+    }
+    sum
+}
+
+// Each root waits for the one before it: the last bit of its remainder goes into the number.
+#[no_mangle]
+pub extern "C" fn bench_whole_root_chain(values: &[u64]) -> u64 {
+    let mut sum: u64 = 0;
+    let n = values.len();
+    let mut i: usize = 0;
+    while i < n {
+        let at = i;
+        i += 1;
+        sum = mix_whole_root(0, root::whole_root(values[at] ^ (sum % 2)));
+    }
+    sum
 }
 
 // The bounds are the first four of each five.

@@ -636,6 +636,19 @@ fn root_sqrt() {
     tell::double(root::sqrt(-1.0));
 }
 
+fn root_whole_root() {
+    tell::call(b"root::whole_root");
+    let near = root::whole_root(1200 * 1200 + 350 * 350);
+    tell::number(near.root);
+    tell::number(near.remainder);
+    let far = root::whole_root(1200 * 1200 + 352 * 352);
+    tell::number(far.root);
+    tell::number(far.remainder);
+    let greatest = root::whole_root(18446744073709551615);
+    tell::number(greatest.root);
+    tell::number(greatest.remainder);
+}
+
 fn float_abs() {
     tell::call(b"float::abs");
     tell::double(float::abs(-0.5));
@@ -920,6 +933,7 @@ fn main() {
     domain_check_vector();
     domain_check_points();
     root_sqrt();
+    root_whole_root();
     float_abs();
     float_is_finite();
     float_max();
