@@ -394,18 +394,20 @@ pub fn root_chain(values: &[f64]) -> u64 {
         .to_bits()
 }
 
-fn mix_whole_root(sum: u64, (root, remainder): (u64, u64)) -> u64 {
+type WholeRoot = (u64, u64);
+
+fn mix_whole_root(sum: u64, (root, remainder): WholeRoot) -> u64 {
     mix(mix(sum, root), remainder)
 }
 
 /// The standard library's.
-fn isqrt(n: u64) -> (u64, u64) {
+fn isqrt(n: u64) -> WholeRoot {
     let root = n.isqrt();
     (root, n - root * root)
 }
 
 /// By the hardware's root of the number as a double, which is the whole root or one more.
-fn hardware_root(n: u64) -> (u64, u64) {
+fn hardware_root(n: u64) -> WholeRoot {
     let root = ((n as f64).sqrt() as u64).min(u32::MAX.into());
     match n.checked_sub(root * root) {
         Some(remainder) => (root, remainder),
@@ -413,32 +415,36 @@ fn hardware_root(n: u64) -> (u64, u64) {
     }
 }
 
+#[inline(always)]
+fn at_once(values: &[u64], root: impl Fn(u64) -> WholeRoot) -> u64 {
+    let mixed = |sum, n: &u64| mix_whole_root(sum, root(*n));
+    values.iter().fold(0, mixed)
+}
+
+#[inline(always)]
+fn chained(values: &[u64], root: impl Fn(u64) -> WholeRoot) -> u64 {
+    let last = |sum, n: &u64| mix_whole_root(0, root(n ^ (sum % 2)));
+    values.iter().fold(0, last)
+}
+
 #[inline(never)]
 pub fn whole_root(values: &[u64]) -> u64 {
-    values
-        .iter()
-        .fold(0, |sum, n| mix_whole_root(sum, isqrt(*n)))
+    at_once(values, isqrt)
 }
 
 #[inline(never)]
 pub fn whole_root_chain(values: &[u64]) -> u64 {
-    values
-        .iter()
-        .fold(0, |sum, n| mix_whole_root(0, isqrt(n ^ (sum % 2))))
+    chained(values, isqrt)
 }
 
 #[inline(never)]
 pub fn hardware_whole_root(values: &[u64]) -> u64 {
-    values
-        .iter()
-        .fold(0, |sum, n| mix_whole_root(sum, hardware_root(*n)))
+    at_once(values, hardware_root)
 }
 
 #[inline(never)]
 pub fn hardware_whole_root_chain(values: &[u64]) -> u64 {
-    values
-        .iter()
-        .fold(0, |sum, n| mix_whole_root(0, hardware_root(n ^ (sum % 2))))
+    chained(values, hardware_root)
 }
 
 #[inline(never)]
