@@ -2,15 +2,16 @@
 use mathlib.Core.Path.{_≡_, refl, sym, ap, _∙_, subst}
 use mathlib.Core.Bool.{Bool, true, not}
 use Prim.Native.Nat.{ℕ, zero, suc, _+_, _-_, _*_, _/_, _%_, _^_, _≤_, _<_}
-use native.Mathlib.Nat.{le-trans, lt-of-not-le, lt-of-le-of-lt, not-le-of-lt, mul-assoc, mul-le-mul-right}
+use native.Mathlib.Nat.{mul-assoc, mul-le-mul-right}
 use native.Mathlib.Omega.{arith}
 use lib.Dec.{T, ltb, ltb→lt, not-T}
-use lib.Pow.{pow-add, pow-mono, shl-lt}
+use lib.Pow.{pow-add, shl-lt}
 use lib.Count.{leadingZeros, leading-top}
 use lib.Ieee.{Float, nan, binary64, nanBits, ne}
 use lib.Ieee.Bits.{nanBits-above}
 use lib.Ieee.Compare.{differs-from-itself}
 use Rattle.root.specs.Root.{sqrtOf}
+use Rattle.root.proofs.Widths.{top-below}
 
 at-nan : sqrtOf nan ≡ nan
 unfolding sqrtOf
@@ -56,7 +57,7 @@ shifts b z j e g l k = record {
 pub shifted : (b : ℕ) → 0 < b → b < 2 ^ 52 → Shifted b (leadingZeros 64 b)
 shifted b p l =
     let t = leading-top 64 b p (under b l) in
-    shifts b (leadingZeros 64 b) (t .0) (t .1) (t .2) (t .3) (lt-of-not-le (λ (g : 52 ≤ t .0). not-le-of-lt l (le-trans (pow-mono g) (t .2))))
+    shifts b (leadingZeros 64 b) (t .0) (t .1) (t .2) (t .3) (top-below b (t .0) 52 (t .2) l)
   where
     under : (b : ℕ) → b < 2 ^ 52 → b < 2 ^ 64
     under b l = omega arith

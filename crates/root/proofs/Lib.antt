@@ -1,5 +1,6 @@
 pub mod Grow
 pub mod Test
+pub mod Widths
 pub mod Laws
 pub mod Remainder
 pub mod Units

@@ -1,10 +1,9 @@
 -- `root::guess` meets its contract, which says nothing: no step wraps around by mistake. Assumes nothing.
-use Prim.Native.Nat.{ℕ, _*_, _/_, _^_, _≤_, _<_}
-use native.Mathlib.Nat.{le-trans, lt-of-not-le, not-le-of-lt, mul-le-mul}
+use Prim.Native.Nat.{ℕ, _/_, _^_, _≤_, _<_}
 use native.Mathlib.Omega.{arith}
 use borrow.Author.Needs.{needs}
 use lib.Count.{leadingZeros, leading-top}
-use lib.Pow.{pow-mono}
+use Rattle.root.proofs.Widths.{top-below, product-below}
 use Rattle.root.proofs.guess.Statement.{statement}
 use Rattle.root.proofs.guess.Tie as tie
 
@@ -12,17 +11,13 @@ use Rattle.root.proofs.guess.Tie as tie
 zeros : (n : ℕ) → 256 ≤ n → n < 2 ^ 64 → (1 ≤ leadingZeros 64 (n / 2)) × (leadingZeros 64 (n / 2) ≤ 63)
 zeros n g l =
     let t = leading-top 64 (n / 2) (omega arith) (omega arith) in
-    let b : t .0 < 63 = lt-of-not-le (λ (k : 63 ≤ t .0). not-le-of-lt half (le-trans (pow-mono k) (t .2))) in
-    (omega (arith, t .1, b), omega (arith, t .1))
+    (omega (arith, t .1, top-below (n / 2) (t .0) 63 (t .2) half), omega (arith, t .1))
   where
     half : n / 2 < 2 ^ 63
     half = omega arith
 
 at : (c : tie.Else1) → (1 ≤ leadingZeros 64 (c .before .args .n / 2)) × (leadingZeros 64 (c .before .args .n / 2) ≤ 63)
 at c = zeros (c .before .args .n) (omega arith) (omega arith)
-
-room : (a b : ℕ) → a ≤ 2 ^ 14 → b ≤ 2 ^ 17 → a * b < 2 ^ 32
-room a b h k = omega (arith, mul-le-mul h k)
 
 roots-requires : tie.Need-roots-requires
 roots-requires c κs = search needs
@@ -64,7 +59,7 @@ cast-wrapping-sub-u32-2 : tie.Need-cast-wrapping-sub-u32-2
 cast-wrapping-sub-u32-2 c = search needs
 
 mul-wrapping-sub-u32 : tie.Need-mul-wrapping-sub-u32
-mul-wrapping-sub-u32 c = record { fits = room _ _ (omega arith) (omega arith) }
+mul-wrapping-sub-u32 c = record { fits = product-below 15 17 (omega arith) (omega arith) }
 
 wrapping-sub-u32-requires : tie.Need-wrapping-sub-u32-requires
 wrapping-sub-u32-requires c κs = search needs
@@ -73,7 +68,7 @@ cast-wrapping-sub-u32-3 : tie.Need-cast-wrapping-sub-u32-3
 cast-wrapping-sub-u32-3 c = search needs
 
 mul-wrapping-sub-u32-2 : tie.Need-mul-wrapping-sub-u32-2
-mul-wrapping-sub-u32-2 c = record { fits = room _ _ (omega arith) (omega arith) }
+mul-wrapping-sub-u32-2 c = record { fits = product-below 15 17 (omega arith) (omega arith) }
 
 wrapping-sub-u32-requires-2 : tie.Need-wrapping-sub-u32-requires-2
 wrapping-sub-u32-requires-2 c κs = search needs
