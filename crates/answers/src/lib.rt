@@ -1,4 +1,6 @@
 // What the library's answers look like in the stream: a status of 0 and the answer's words, or a refusal.
+#![tactic(auto)]
+
 ghost use Rattle.std.specs.Prelude.{◌≤◌};
 
 use coo3d::{Coo3D, UnitVect3, Vect3};
@@ -8,7 +10,7 @@ use region::{Built, CountAnswer, Region};
 use stream::{Buffer, Stream};
 
 // The region that is kept after a request.
-#[derive(Drop)]
+#[derive(Clone, Copy)]
 pub struct Kept {
     pub region: Region,
     pub stream: Stream,

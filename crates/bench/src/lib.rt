@@ -1,6 +1,8 @@
 // The loops that `make bench` times. Each calls one public function once for each entry of a slice, as a program would, and answers a checksum
 // of what it was answered, which the benchmark holds to upstream's. They are no calls of the product: no contract says what they answer, and
 // what is proved of them is that they are safe and end.
+#![tactic(auto)]
+
 ghost use Rattle.std.specs.Prelude.{◌≤◌, ◌<◌, length};
 
 use cone::ConeAnswer;

@@ -1,4 +1,6 @@
 // The bounding cone of some points. Upstream: src/sph_geom/cone.rs, `Cone::bounding_cone`.
+#![tactic(auto)]
+
 ghost use Rattle.std.specs.Prelude.{◌≡◌, ◌≤◌, take};
 ghost use Rattle.cone.specs.Cone.{cone_answer, bounding_cone_of, gravity_center, center_of, d2_max_of};
 
@@ -6,13 +8,13 @@ use coo3d::{Coo3D, UnitVect3, Vect3};
 use refusal::{Cause, Outcome};
 
 // A centre, and the largest squared chord from it to a point: upstream's radius is 2 asin(sqrt(d2_max) / 2).
-#[derive(Drop)]
+#[derive(Clone, Copy)]
 pub struct Cone {
     pub center: UnitVect3,
     pub d2_max: f64,
 }
 
-#[derive(Drop)]
+#[derive(Clone, Copy)]
 pub enum ConeAnswer {
     Made(Cone),
     Refused(Cause),

@@ -1,9 +1,11 @@
 // Points and vectors. Upstream: src/sph_geom/coo3d.rs, whose trait `Vec3` is here the struct `Vect3` and a `to_vect3` of each other type.
+#![tactic(auto)]
+
 ghost use Rattle.std.specs.Prelude.{◌≡◌};
 ghost use Rattle.coo3d.specs.Vectors.{origin, zero_vect, vect_of_point, vect_of_unit, dot_of, cross_of, opposite_of, squared_norm, norm_of, is_unit, normalized_of, squared_dist_of, unit_of, unit_opposite_of, is_finite_unit};
 
 // A point of the sphere, by Cartesian and by geographic coordinates, which need not agree.
-#[derive(Drop)]
+#[derive(Clone, Copy)]
 pub struct Coo3D {
     pub x: f64,
     pub y: f64,
@@ -13,7 +15,7 @@ pub struct Coo3D {
 }
 
 // A plain vector.
-#[derive(Drop)]
+#[derive(Clone, Copy)]
 pub struct Vect3 {
     pub x: f64,
     pub y: f64,
@@ -21,14 +23,14 @@ pub struct Vect3 {
 }
 
 // A vector that was scaled to the norm 1, up to rounding.
-#[derive(Drop)]
+#[derive(Clone, Copy)]
 pub struct UnitVect3 {
     pub x: f64,
     pub y: f64,
     pub z: f64,
 }
 
-#[derive(Drop)]
+#[derive(Clone, Copy)]
 pub struct LonLat {
     pub lon: f64,
     pub lat: f64,

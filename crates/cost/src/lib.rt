@@ -1,4 +1,6 @@
 // What containment costs: how many edges are in range at a point, and an outline that has as many as can be. Upstream has neither.
+#![tactic(auto)]
+
 ghost use Rattle.std.specs.Prelude.{◌≡◌};
 ghost use Rattle.refusal.specs.Answer.{refused_for, decision_answer};
 ghost use Rattle.region.specs.View.{view_of};
@@ -24,14 +26,14 @@ const EAST: f64 = 2.0943951023931953;
 const SIN_60: f64 = 0.8660254037844386;
 
 // The decision of `region::contains`, and how many edges were in range. Beside a refusal the number is 0.
-#[derive(Drop)]
+#[derive(Clone, Copy)]
 pub struct RangedDecision {
     pub decision: Decision,
     pub in_range: usize,
 }
 
 // The outline or a refusal, and its point, which stands beside a refusal too.
-#[derive(Drop)]
+#[derive(Clone, Copy)]
 pub struct CostliestOutline {
     pub built: Built,
     pub point: Coo3D,

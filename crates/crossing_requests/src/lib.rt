@@ -1,9 +1,11 @@
 // Requests for the crossings of the kept region's edges with arcs, great circles and parallels.
+#![tactic(auto)]
+
 use coo3d::Coo3D;
 use region::Region;
 use stream::{Buffer, Stream};
 
-#[derive(Drop)]
+#[derive(Clone, Copy)]
 struct Arc {
     a: Coo3D,
     b: Coo3D,

@@ -1,5 +1,7 @@
 // Crossings of a region's edges with a curve, and the answers that the queries give of them. Upstream: the `Option` and `Vec` of `Polygon`'s
 // `intersect_` methods in src/sph_geom/mod.rs.
+#![tactic(auto)]
+
 ghost use Rattle.std.specs.Prelude.{◌≡◌};
 ghost use Rattle.refusal.specs.Answer.{refused_for, decision_answer};
 ghost use Rattle.crossings.specs.Crossings.{zeros, tested_answer, tested_of, first_answer, intersecting_of, Lists};
@@ -8,20 +10,20 @@ use coo3d::UnitVect3;
 use refusal::{Cause, Decision, Outcome};
 
 // Where an edge is crossed, if it is.
-#[derive(Drop)]
+#[derive(Clone, Copy)]
 pub enum Crossing {
     None,
     At(UnitVect3),
 }
 
 // A crossing to be answered, which has to be finite.
-#[derive(Drop)]
+#[derive(Clone, Copy)]
 pub enum Tested {
     Crossing(Crossing),
     Refused(Cause),
 }
 
-#[derive(Drop)]
+#[derive(Clone, Copy)]
 pub enum FirstAnswer {
     None,
     At(UnitVect3),
@@ -29,14 +31,14 @@ pub enum FirstAnswer {
 }
 
 // The first `len` points, in the order of their edges; the others are zero.
-#[derive(Drop)]
+#[derive(Clone, Copy)]
 pub struct Crossings {
     pub points: [UnitVect3; 64],
     pub len: usize,
 }
 
 // The list is empty where the call is refused.
-#[derive(Drop)]
+#[derive(Clone, Copy)]
 pub struct AllAnswer {
     pub crossings: Crossings,
     pub outcome: Outcome,

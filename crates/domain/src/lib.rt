@@ -1,4 +1,6 @@
 // Which points and vectors a call takes. Upstream takes any.
+#![tactic(auto)]
+
 ghost use Rattle.std.specs.Prelude.{◌≡◌};
 ghost use Rattle.domain.specs.Domain.{in_domain, vector_in_domain};
 ghost use Rattle.domain.specs.Checks.{point_answer, point_at, vector_answer, vector_at, PointsChecked};
@@ -6,20 +8,20 @@ ghost use Rattle.domain.specs.Checks.{point_answer, point_at, vector_answer, vec
 use coo3d::{Coo3D, Vect3};
 use refusal::{Cause, Outcome};
 
-#[derive(Drop)]
+#[derive(Clone, Copy)]
 pub enum PointCheck {
     Point(Coo3D),
     Refused(Cause),
 }
 
-#[derive(Drop)]
+#[derive(Clone, Copy)]
 pub enum VectorCheck {
     Vector(Vect3),
     Refused(Cause),
 }
 
 // The points that were checked are the first `count` of `points`, and the others are free. A refusal leaves all as they were given.
-#[derive(Drop)]
+#[derive(Clone, Copy)]
 pub struct PointsCheck {
     pub points: [Coo3D; 64],
     pub outcome: Outcome,

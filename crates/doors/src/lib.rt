@@ -1,4 +1,6 @@
 // The functions that C calls, over a region file's bytes: docs/CALLS.md and c/jigwandor.h. A slice is a pointer, then a length.
+#![tactic(auto)]
+
 ghost use Rattle.std.specs.Prelude.{◌≡◌, ◌+◌};
 ghost use Rattle.refusal.specs.Answer.{decision_answer};
 ghost use Rattle.refusal.specs.Table.{number_of};

@@ -1,5 +1,7 @@
 // Edits of a region. A corner changed costs the normals it touches and one pass over the corners, in which those edges are counted that cross the
 // seam, and the region is still the one that a fresh build would give: the theorem in edit_theorem. Upstream has `must_contain` alone.
+#![tactic(auto)]
+
 ghost use Rattle.std.specs.Prelude.{◌≡◌, cond, not, [], ◌-◌, ◌≤◌, ◌<◌, eqb, ltb};
 ghost use Rattle.lists.specs.Cyclic.{prev_of, next_of, there_of};
 ghost use Rattle.region.specs.View.{view_of, with_flag};
@@ -16,7 +18,7 @@ use refusal::{Cause, Decision, Outcome};
 use region::{ContainsSouthPoleMethod, Region};
 
 // The region beside the outcome. A refusal leaves the region as it was.
-#[derive(Drop)]
+#[derive(Clone, Copy)]
 pub struct EditAnswer {
     pub region: Region,
     pub outcome: Outcome,
@@ -294,7 +296,7 @@ pub fn turn(r: Region) -> EditAnswer
 }
 
 // A flag beside an outcome.
-#[derive(Drop)]
+#[derive(Clone, Copy)]
 struct Flag {
     flag: bool,
     outcome: Outcome,

@@ -1,5 +1,7 @@
 // Requests about a region file: it is written, read, and asked through the C doors. What is lent is the front of an array, as long as the request
 // says.
+#![tactic(auto)]
+
 use answers::Kept;
 use region::Region;
 use region_file::WriteAnswer;

@@ -1,4 +1,6 @@
 // The doubles and float helpers that the geometry shares: what upstream takes from f64 and from `Customf64`.
+#![tactic(auto)]
+
 ghost use Rattle.std.specs.Prelude.{◌≡◌};
 ghost use Rattle.std.specs.Float.{binary64};
 ghost use Rattle.std.specs.Float.Ieee.{of_bits, to_bits};

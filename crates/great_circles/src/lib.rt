@@ -1,4 +1,6 @@
 // Where a region's edges cross a great circle, or an arc of one. Upstream: `Polygon`'s `intersect_great_circle_` methods in src/sph_geom/mod.rs.
+#![tactic(auto)]
+
 ghost use Rattle.std.specs.Prelude.{◌≡◌, cond};
 ghost use Rattle.std.specs.Float.Ieee.{lt};
 ghost use Rattle.coo3d.specs.Vectors.{dot_of};

@@ -1,4 +1,6 @@
 // Calls on a lent region, for callers that hold their region by value.
+#![tactic(auto)]
+
 ghost use Rattle.edits.specs.Edits.{Edited};
 ghost use Rattle.edits.specs.Edits as edit;
 

@@ -1,4 +1,6 @@
 // The worked examples of docs/CALLS.md, in its order: what they print is crates/manual/stdout, and tests/manual holds the document to both.
+#![tactic(auto)]
+
 use coo3d::{Coo3D, UnitVect3, Vect3};
 use crossings::{Crossing, FirstAnswer};
 use refusal::Cause;

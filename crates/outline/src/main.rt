@@ -1,4 +1,6 @@
 // The example's region file, to standard output: a seal colony's water round Bouvet Island, five corners on both sides of the meridian 0.
+#![tactic(auto)]
+
 use coo3d::Coo3D;
 use libc::STDOUT_FILENO;
 use refusal::Outcome;

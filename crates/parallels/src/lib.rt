@@ -1,5 +1,7 @@
 // Where a region's edges cross a parallel. Upstream: `Polygon`'s `intersect_parallel` methods in src/sph_geom/mod.rs, whose cases A and B keep
 // their names. The caller gives the latitude with its sine and cosine.
+#![tactic(auto)]
+
 ghost use Rattle.std.specs.Prelude.{◌≡◌};
 ghost use Rattle.refusal.specs.Answer.{decision_answer};
 ghost use Rattle.region.specs.View.{view_of};

@@ -1,9 +1,11 @@
 // The causes for which a call refuses, as document 01's table lists them. Upstream panics, or has no such case.
+#![tactic(auto)]
+
 ghost use Rattle.std.specs.Prelude.{◌≡◌};
 ghost use Rattle.refusal.specs.Answer.{answered, decision_answer};
 ghost use Rattle.refusal.specs.Table.{number_of};
 
-#[derive(Drop)]
+#[derive(Clone, Copy)]
 pub enum Cause {
     // A point or vector outside the domain, with its index; of several the lowest.
     OutsideDomain(usize),
@@ -26,14 +28,14 @@ pub enum Cause {
 }
 
 // How a call ended that hands its result beside this.
-#[derive(Drop)]
+#[derive(Clone, Copy)]
 pub enum Outcome {
     Done,
     Refused(Cause),
 }
 
 // The answer of a question.
-#[derive(Drop)]
+#[derive(Clone, Copy)]
 pub enum Decision {
     Yes,
     No,

@@ -1,4 +1,6 @@
 // Regions: polygons on the sphere with a pole flag, how they are built, and which points they contain. Upstream: `Polygon` in src/sph_geom/mod.rs.
+#![tactic(auto)]
+
 ghost use Rattle.std.specs.Prelude.{◌≡◌, false, ◌≤◌, ◌<◌, take};
 ghost use Rattle.refusal.specs.Answer.{answered, refused_for, decision_answer};
 ghost use Rattle.domain.specs.Checks.{point_at};
@@ -13,7 +15,7 @@ use refusal::{Cause, Decision, Outcome};
 
 // The first `count` entries of the two arrays are the corners, and each edge's normal; the others are free. Edge i runs from corner i - 1 to
 // corner i, edge 0 from the last corner. A value handed in counts as its fields are.
-#[derive(Drop)]
+#[derive(Clone, Copy)]
 pub struct Region {
     pub vertices: [Coo3D; 64],
     pub cross_products: [Vect3; 64],
@@ -24,7 +26,7 @@ pub struct Region {
 }
 
 // The rule that sets the flag.
-#[derive(Drop)]
+#[derive(Clone, Copy)]
 pub enum ContainsSouthPoleMethod {
     Default,
     DefaultComplement,
@@ -35,21 +37,21 @@ pub enum ContainsSouthPoleMethod {
 }
 
 // The answer of a call that counts.
-#[derive(Drop)]
+#[derive(Clone, Copy)]
 pub enum CountAnswer {
     Count(usize),
     Refused(Cause),
 }
 
 // A rule whose control point was checked.
-#[derive(Drop)]
+#[derive(Clone, Copy)]
 pub enum RuleCheck {
     Rule(ContainsSouthPoleMethod),
     Refused(Cause),
 }
 
 // Beside a refusal stands the empty region.
-#[derive(Drop)]
+#[derive(Clone, Copy)]
 pub struct Built {
     pub region: Region,
     pub outcome: Outcome,

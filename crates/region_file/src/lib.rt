@@ -1,4 +1,6 @@
 // The region file, edition 1: document 01, 'Region file'. Upstream has none.
+#![tactic(auto)]
+
 ghost use Rattle.std.specs.Prelude.{◌≡◌, true, ◌+◌, ◌*◌, ◌≤◌, length, take};
 ghost use Rattle.std.proofs.lemmas.List.Edits.{sets};
 ghost use Rattle.refusal.specs.Answer.{outcome_of, verdict};
@@ -12,19 +14,19 @@ use refusal::{Cause, Outcome};
 use region::{Built, Region};
 
 // What a trailer that was accepted says.
-#[derive(Drop)]
+#[derive(Clone, Copy)]
 pub struct Trailer {
     pub flag: bool,
     pub count: usize,
 }
 
-#[derive(Drop)]
+#[derive(Clone, Copy)]
 pub enum TrailerAnswer {
     Trailer(Trailer),
     Refused(Cause),
 }
 
-#[derive(Drop)]
+#[derive(Clone, Copy)]
 pub enum WriteAnswer {
     // The file's length.
     Written(usize),

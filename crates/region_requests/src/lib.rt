@@ -1,4 +1,6 @@
 // Requests about the region that is kept: it is built, edited, handed in, and asked about a point.
+#![tactic(auto)]
+
 use answers::Kept;
 use coo3d::Coo3D;
 use edits::EditAnswer;
@@ -6,7 +8,7 @@ use refusal::{Decision, Outcome};
 use region::{ContainsSouthPoleMethod, Region};
 use stream::{Buffer, Stream};
 
-#[derive(Drop)]
+#[derive(Clone, Copy)]
 struct Rule {
     method: ContainsSouthPoleMethod,
     stream: Stream,
@@ -52,7 +54,7 @@ fn put_edited(s: Stream, out: &mut Buffer, before: Region, answer: EditAnswer) -
 }
 
 // An index and the corner that goes there.
-#[derive(Drop)]
+#[derive(Clone, Copy)]
 struct Corner {
     index: usize,
     point: Coo3D,

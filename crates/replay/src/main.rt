@@ -1,6 +1,8 @@
 // Answers a stream of requests on standard input with a stream of answers on standard output (docs/COMPARISON.md has both). Each kind of request
 // has a library that decodes it, calls the library's public functions and encodes the answer. A new request is a function there, and here its number
 // and a line in `ask`, `change` or `step`, by what it changes.
+#![tactic(auto)]
+
 use answers::Kept;
 use region::Region;
 use shape_requests::{KeptZone, Zoned};
@@ -69,7 +71,7 @@ const COSTLIEST_OUTLINE: u64 = 31;
 const WHOLE_ROOT: u64 = 32;
 
 // What is kept from one request to the next.
-#[derive(Drop)]
+#[derive(Clone, Copy)]
 struct State {
     region: Region,
     zone: KeptZone,

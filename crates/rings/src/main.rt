@@ -1,6 +1,8 @@
 // The worked rings of docs/POLES.md, in its order: what they print is crates/rings/stdout, and tests/manual holds the page to both.
 // A point's five numbers were worked out beforehand from degrees of longitude and latitude, eastward and northward, and each was rounded once: cos(lat) cos(lon),
 // cos(lat) sin(lon), sin(lat), and the two angles in radians. There is no sine here.
+#![tactic(auto)]
+
 use coo3d::Coo3D;
 use region::{ContainsSouthPoleMethod, Region};
 

@@ -1,12 +1,14 @@
 // The correctly rounded root of an f64, which upstream takes from `f64::sqrt`, from the operand's bits; and the whole root of a u64. Both over
 // whole numbers, with no division but by powers of two.
+#![tactic(auto)]
+
 ghost use Rattle.std.specs.Prelude.{◌≡◌, ◌+◌, ◌*◌, ◌/◌, ◌%◌, ◌^◌, ◌<◌, ◌≤◌};
 ghost use Rattle.root.specs.Root.{sqrt_of};
 ghost use Rattle.root.specs.Whole.{IsRoot, near_root};
 ghost use Rattle.root.specs.WholeRoot.{whole_root_of};
 
 // The largest whole number whose square is not above a number, and what the square leaves of it.
-#[derive(Drop)]
+#[derive(Clone, Copy)]
 pub struct WholeRoot {
     pub root: u64,
     pub remainder: u64,

@@ -1,4 +1,6 @@
 // Requests that concern no region: zones, the bounding cone, the roots.
+#![tactic(auto)]
+
 use cone::{Cone, ConeAnswer};
 use coo3d::LonLat;
 use refusal::Cause;
@@ -6,12 +8,12 @@ use stream::{Buffer, Stream};
 use zone::{Zone, ZoneAnswer};
 
 // The zone that is kept. None at first, which is answered as wrong bounds are.
-#[derive(Drop)]
+#[derive(Clone, Copy)]
 pub struct KeptZone {
     pub answer: ZoneAnswer,
 }
 
-#[derive(Drop)]
+#[derive(Clone, Copy)]
 pub struct Zoned {
     pub zone: KeptZone,
     pub stream: Stream,

@@ -1,4 +1,6 @@
 // The request stream: 64-bit little-endian words from standard input and to standard output, by way of two lent buffers.
+#![tactic(auto)]
+
 ghost use Rattle.std.specs.Prelude.{◌+◌, ◌≤◌, ◌<◌, length};
 
 use coo3d::{Coo3D, Vect3};
@@ -7,7 +9,7 @@ use libc::{STDIN_FILENO, STDOUT_FILENO};
 // Its length is a multiple of 8, so that no word of the stream lies in two of them.
 pub type Buffer = [u8; 65536];
 
-#[derive(Drop)]
+#[derive(Clone, Copy)]
 pub struct Stream {
     // The input's bytes from `at` up to `end` are still to be read.
     at: usize,
@@ -18,33 +20,33 @@ pub struct Stream {
     pub ended: bool,
 }
 
-#[derive(Drop)]
+#[derive(Clone, Copy)]
 pub struct Word {
     pub value: u64,
     pub stream: Stream,
 }
 
 // A number of bytes or of points.
-#[derive(Drop)]
+#[derive(Clone, Copy)]
 pub struct Length {
     pub value: usize,
     pub stream: Stream,
 }
 
-#[derive(Drop)]
+#[derive(Clone, Copy)]
 pub struct Double {
     pub value: f64,
     pub stream: Stream,
 }
 
-#[derive(Drop)]
+#[derive(Clone, Copy)]
 struct Pair {
     first: f64,
     second: f64,
     stream: Stream,
 }
 
-#[derive(Drop)]
+#[derive(Clone, Copy)]
 pub struct Triple {
     pub first: f64,
     pub second: f64,
@@ -52,7 +54,7 @@ pub struct Triple {
     pub stream: Stream,
 }
 
-#[derive(Drop)]
+#[derive(Clone, Copy)]
 pub struct Quad {
     pub first: f64,
     pub second: f64,
@@ -61,25 +63,25 @@ pub struct Quad {
     pub stream: Stream,
 }
 
-#[derive(Drop)]
+#[derive(Clone, Copy)]
 pub struct Point {
     pub value: Coo3D,
     pub stream: Stream,
 }
 
-#[derive(Drop)]
+#[derive(Clone, Copy)]
 pub struct Points {
     pub values: [Coo3D; 64],
     pub stream: Stream,
 }
 
-#[derive(Drop)]
+#[derive(Clone, Copy)]
 pub struct Vector {
     pub value: Vect3,
     pub stream: Stream,
 }
 
-#[derive(Drop)]
+#[derive(Clone, Copy)]
 pub struct Vectors {
     pub values: [Vect3; 64],
     pub stream: Stream,

@@ -1,4 +1,6 @@
 // How the examples print: the call's name, then a line for each answer. Doubles are the 16 hexadecimal digits of their bits.
+#![tactic(auto)]
+
 use cone::ConeAnswer;
 use coo3d::{LonLat, UnitVect3, Vect3};
 use cost::RangedDecision;

@@ -1,4 +1,6 @@
 // Zones between two meridians and two parallels. Upstream: src/sph_geom/zone.rs.
+#![tactic(auto)]
+
 ghost use Rattle.std.specs.Prelude.{◌≡◌};
 ghost use Rattle.zone.specs.Zone.{bounds_hold, raised, zone_answer, zone_of, dlon_of, crossed_vertically, crossed_horizontally, lon_range_compatible, zone_contains, zone_contains_exclusive, vertices_of};
 
@@ -6,7 +8,7 @@ use coo3d::LonLat;
 use refusal::Cause;
 
 // A value handed in counts as its fields are, whether `new` made it or not.
-#[derive(Drop)]
+#[derive(Clone, Copy)]
 pub struct Zone {
     pub lon_min: f64,
     pub lat_min: f64,
@@ -16,7 +18,7 @@ pub struct Zone {
     pub cross_primary_meridian: bool,
 }
 
-#[derive(Drop)]
+#[derive(Clone, Copy)]
 pub enum ZoneAnswer {
     Made(Zone),
     Refused(Cause),

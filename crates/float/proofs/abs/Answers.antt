@@ -1,4 +1,3 @@
--- `float::abs` meets its contract, case by case. Assumes nothing.
 use Prim.Native.Nat.{ℕ, zero, suc, ◌+◌, ◌*◌, ◌^◌, ◌<◌}
 use native.Mathlib.Nat.{lt_irrefl, eq-zero-or-pos, mul-pos, pow-succ'}
 use native.Mathlib.Omega.{arith}
@@ -12,8 +11,9 @@ use lib.Ieee.{Float, nan, inf, fin, binary64, up, down, lt, eq, neg, of_bits, fi
 use lib.Ieee.Fits.{up_pos, down_pos}
 use Rattle.float.specs.Doubles.{abs_of, max_of, nought}
 use borrow.Author.Rules.{rules}
-use Rattle.float.proofs.abs.Statement.{statement}
-use Rattle.float.proofs.abs.Tie as tie
+use Rattle.float.proofs.abs.Goals as goal
+
+-- `float::abs` meets its contract, case by case. Assumes nothing.
 
 -- a zero is written in one way
 at_one : (s : Bool) (e : ℤ) → T (fits binary64 (fin s 0 e)) → e ≡ pos 0
@@ -61,14 +61,8 @@ other (fin true m e) h = go (ltb 0 (m * up e * down e + m * up e * down e)) refl
     go true k = refl
     go false k = absurd (⊎_elim some (λ q. lt_irrefl 0 (omega (arith, mul-pos q (down_pos e), ltb-false 0 (m * up e * down e + m * up e * down e) k))) (eq-zero-or-pos (m * up e)))
 
-max-requires : tie.Need-max-requires
-max-requires c κs = search rules
+pub returns-then-x : goal.returns-then-x
+returns-then-x c = none c.args.x (subst T (sym c.well_formed.0.1) tt) c.if-x.true
 
-returns : tie.Need-returns
-returns c = none c.before.args.x (subst T (sym c.before.well-formed.0.1) tt) c.if1.true
-
-returns-2 : tie.Need-returns-2
-returns-2 c = c.max.ensures ∙ other c.before.before.args.x c.before.if1.false
-
-pub abs-spec : {M : Type 1} → statement M
-abs-spec = tie.close (tie.spec max-requires returns returns-2)
+pub returns-else-x : goal.returns-else-x
+returns-else-x c = c.max.ensures ∙ other c.args.x c.if-x.false
