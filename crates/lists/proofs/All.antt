@@ -21,7 +21,7 @@ module _ {A : Type 0} {P : A → Type 0} where
   unfolding ins
   all_ins zero a h t = more h t
   all_ins (suc i) a h none = more h none
-  all_ins (suc i) a h (more k t) = more k (all_ins i a h t)
+  all_ins (suc i) a h (more {l = l} k t) = more k (all_ins {l = l} i a h t)
 
   pub all_del : {l : List A} (i : ℕ) → All P l → All P (del i l)
   unfolding del
@@ -32,7 +32,7 @@ module _ {A : Type 0} {P : A → Type 0} where
   pub all_take : {l : List A} (n : ℕ) → All P l → All P (take n l)
   all_take zero h = none
   all_take (suc n) none = none
-  all_take (suc n) (more k t) = more k (all_take n t)
+  all_take (suc n) (more {l = l} k t) = more k (all_take {l = l} n t)
 
   pub all_last : {l : List A} (d : A) → P d → All P l → P (last_of d l)
   unfolding last_of

@@ -36,7 +36,7 @@ module _ {C : Type 0} (side : C → Bool) where
   pub alternates_take : {s : Bool} {cs : List C} (n : ℕ) → Alternates side s cs → Alternates side s (take n cs)
   alternates_take zero h = ends
   alternates_take (suc n) ends = ends
-  alternates_take (suc n) (next e h) = next e (alternates_take n h)
+  alternates_take {s} (suc n) (next e h) = next e (alternates_take {s = not s} n h)
 
   every_step : (from : C) {s : Bool} {cs : List C} → side from ≡ not s → Alternates side s cs → how_many (λ b. b) (along (changes side) from cs) ≡ length cs
   unfolding how_many along

@@ -2,8 +2,7 @@
 use Rattle.std.proofs.Common.{◌≡◌, ℕ, ◌+◌, ◌*◌, ◌/◌, ◌^◌, ◌<◌, subst, arith, rules}
 use Rattle.root.specs.Whole.{IsRoot}
 use Rattle.root.proofs.Laws.{nearest_is, root_short}
-use Rattle.root.proofs.by_digits.Statement.{statement}
-use Rattle.root.proofs.by_digits.Tie as tie
+use Rattle.root.proofs.by_digits.Goals as goal
 
 -- the root of 54 digits
 whole : (n s r : ℕ) → IsRoot (n * 1024 * 4 ^ 54 / 2 ^ 64) s r → IsRoot (4 * (n * 2 ^ 52)) s r
@@ -12,23 +11,14 @@ whole n s r h = subst (λ (q : ℕ). IsRoot q s r) plain h
     plain : n * 1024 * 4 ^ 54 / 2 ^ 64 ≡ 4 * (n * 2 ^ 52)
     plain = omega arith
 
-mul-digits : tie.Need-overflow-mul-digits
-mul-digits c = search rules
-
-digits-requires : tie.Need-digits-requires
-digits-requires c κs = search rules
-
-add-result : tie.Need-overflow-add-result
-add-result c = record { fits = room _ _ _ c.before.before.requires (whole _ _ _ c.before.digits.ensures) }
+pub overflow_add-result : goal.overflow_add-result
+overflow_add-result c = record { fits = room _ _ _ c.requires (whole _ _ _ c.digits.ensures) }
   where
     room : (n s r : ℕ) → n < 2 ^ 54 → IsRoot (4 * (n * 2 ^ 52)) s r → s + 1 < 2 ^ 64
     room n s r l h = omega (arith, root_short (omega arith) h)
 
-returns : tie.Need-returns
-returns c = nearest_is (below _ c.before.before.requires) (whole _ _ _ c.before.digits.ensures)
+pub returns : goal.returns
+returns c = nearest_is (below _ c.requires) (whole _ _ _ c.digits.ensures)
   where
     below : (n : ℕ) → n < 2 ^ 54 → n * 2 ^ 52 < 2 ^ 106
     below n h = omega arith
-
-pub by-digits-spec : {M : Type 1} → statement M
-by-digits-spec = tie.close (tie.spec mul-digits digits-requires add-result returns)

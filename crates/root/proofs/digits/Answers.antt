@@ -5,15 +5,8 @@ use mir.Val.{bool_byte}
 use Rattle.root.specs.Whole.{IsRoot}
 use Rattle.root.proofs.Grow.{grows, same_root, pow_next}
 use Rattle.root.proofs.Test.{either_way, digit_is}
-use Rattle.root.proofs.digits.Statement.{statement}
-use Rattle.root.proofs.digits.Tie as tie
-
-record State (n w s r m i : ℕ) : Type 0 where
-  wide : w ≤ 54
-  most : i ≤ w
-  short : s < 2 ^ i
-  rooted : IsRoot (n * 4 ^ i / 2 ^ 64) s r
-  rest : m ≡ n * 4 ^ i % 2 ^ 64
+use Rattle.root.proofs.digits.Goals as goal
+use Rattle.root.proofs.digits.Invariants.{State}
 
 module _ (n w s r m i : ℕ) (h : State n w s r m i) where
   low : s < 2 ^ 54
@@ -67,86 +60,45 @@ module _ (n w s r m i : ℕ) (h : State n w s r m i) where
       follow : (p q m : ℕ) → q ≡ 4 * p → m ≡ p % 2 ^ 64 → m % 2 ^ 62 * 4 ≡ q % 2 ^ 64
       follow p q m a b = omega arith
 
-abbrev invariant-loop : tie.invariant-loop
-invariant-loop n width root₀ left₀ rest₀ i₀ root left rest i = State n width root left rest i
-
-abbrev decreases-loop : tie.decreases-loop
-decreases-loop n width root₀ left₀ rest₀ i₀ root left rest i = width - i
-
 start : (n w : ℕ) → w ≤ 54 → n < 2 ^ 64 → State n w 0 0 n 0
 start n w g h = record { wide = g; most = omega arith; short = omega arith; rooted = record { square = omega arith; small = omega arith }; rest = omega arith }
 
-loop_holds : tie.Need-loop-init invariant-loop decreases-loop
-loop_holds c = start c.args.n c.args.width c.requires (omega arith)
+pub loop-i-init : goal.loop-i-init
+loop-i-init c = start c.args.n c.args.width c.requires (omega arith)
 
-mul-t : tie.Need-overflow-mul-t invariant-loop decreases-loop
-mul-t c = record { fits = a1 _ _ _ _ _ _ c.before.loop.invariant }
+pub overflow_mul-t : goal.overflow_mul-t
+overflow_mul-t c = record { fits = a1 _ _ _ _ _ _ c.loop-i.invariant }
 
-add-t : tie.Need-overflow-add-t invariant-loop decreases-loop
-add-t c = record { fits = a2 _ _ _ _ _ _ c.before.loop.invariant }
+pub overflow_add-t : goal.overflow_add-t
+overflow_add-t c = record { fits = a2 _ _ _ _ _ _ c.loop-i.invariant }
 
-mul-o : tie.Need-overflow-mul-o invariant-loop decreases-loop
-mul-o c = record { fits = omega (arith, low _ _ _ _ _ _ c.before.loop.invariant) }
+pub overflow_mul-o : goal.overflow_mul-o
+overflow_mul-o c = record { fits = omega (arith, low _ _ _ _ _ _ c.loop-i.invariant) }
 
-cast-o : tie.Need-overflow-cast-o invariant-loop decreases-loop
-cast-o c = search rules
+pub overflow_mul-left : goal.overflow_mul-left
+overflow_mul-left c = record { fits = omega (arith, low _ _ _ _ _ _ c.loop-i.invariant) }
 
-mul_left : tie.Need-overflow-mul-left invariant-loop decreases-loop
-mul_left c = record { fits = omega (arith, low _ _ _ _ _ _ c.before.loop.invariant) }
+pub overflow_add-left : goal.overflow_add-left
+overflow_add-left c = record { fits = a3 _ _ _ _ _ _ c.loop-i.invariant }
 
-add_left : tie.Need-overflow-add-left invariant-loop decreases-loop
-add_left c = record { fits = a3 _ _ _ _ _ _ c.before.loop.invariant }
+pub overflow_mul-left-in-loop-i : goal.overflow_mul-left-in-loop-i
+overflow_mul-left-in-loop-i c = record { fits = omega (arith, a4 _ _ _ _ _ _ c.loop-i.invariant, a2 _ _ _ _ _ _ c.loop-i.invariant) }
 
-mul-left-2 : tie.Need-overflow-mul-left-2 invariant-loop decreases-loop
-mul-left-2 c = record { fits = omega (arith, a4 _ _ _ _ _ _ c.before.loop.invariant, a2 _ _ _ _ _ _ c.before.loop.invariant) }
+pub overflow_sub-left : goal.overflow_sub-left
+overflow_sub-left c = a4 _ _ _ _ _ _ c.loop-i.invariant
 
-sub-left : tie.Need-overflow-sub-left invariant-loop decreases-loop
-sub-left c = a4 _ _ _ _ _ _ c.before.loop.invariant
+pub overflow_mul-root : goal.overflow_mul-root
+overflow_mul-root c = record { fits = omega (arith, low _ _ _ _ _ _ c.loop-i.invariant) }
 
-mul-root : tie.Need-overflow-mul-root invariant-loop decreases-loop
-mul-root c = record { fits = omega (arith, low _ _ _ _ _ _ c.before.loop.invariant) }
+pub overflow_add-root : goal.overflow_add-root
+overflow_add-root c = record { fits = a6 _ _ _ _ _ _ c.loop-i.invariant }
 
-add-root : tie.Need-overflow-add-root invariant-loop decreases-loop
-add-root c = record { fits = a6 _ _ _ _ _ _ c.before.loop.invariant }
-
-mul-rest : tie.Need-overflow-mul-rest invariant-loop decreases-loop
-mul-rest c = search rules
-
-add-i : tie.Need-overflow-add-i invariant-loop decreases-loop
-add-i c = search rules
-
-loop-less : tie.Need-loop-smaller invariant-loop decreases-loop
-loop-less c = search rules
-
-loop-again : tie.Need-loop-preserved invariant-loop decreases-loop
-loop-again c = again _ _ _ _ _ _ c.before.loop.invariant (omega arith)
+pub loop-i-preserved : goal.loop-i-preserved
+loop-i-preserved c = again _ _ _ _ _ _ c.loop-i.invariant (omega arith)
 
 -- at the end all digits are taken
 ended : (n w s r m i : ℕ) → w ≤ i → State n w s r m i → IsRoot (n * 4 ^ w / 2 ^ 64) s r
 ended n w s r m i g h = subst (λ (k : ℕ). IsRoot (n * 4 ^ k / 2 ^ 64) s r) (le_antisymm h.most g) h.rooted
 
-returns : tie.Need-returns invariant-loop decreases-loop
-returns c = ended _ _ _ _ _ _ (omega arith) c.before.loop.invariant
-
-pub digits-spec : {M : Type 1} → statement M
-digits-spec =
-    tie.close
-    (tie.spec
-    invariant-loop
-    decreases-loop
-    loop_holds
-    mul-t
-    add-t
-    mul-o
-    cast-o
-    mul_left
-    add_left
-    mul-left-2
-    sub-left
-    mul-root
-    add-root
-    mul-rest
-    add-i
-    loop-less
-    loop-again
-    returns)
+pub returns : goal.returns
+returns c = ended _ _ _ _ _ _ (omega arith) c.loop-i.invariant

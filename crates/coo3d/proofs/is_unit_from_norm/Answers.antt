@@ -13,8 +13,7 @@ use lib.Ieee.{Float, nan, inf, fin, up, down, below, level, neg, lt, eq, le}
 use lib.Ieee.Fits.{down_pos}
 use Rattle.float.specs.Doubles.{abs_of, max_of}
 use Rattle.coo3d.specs.Vectors.{is_unit}
-use Rattle.coo3d.proofs.is_unit_from_norm.Statement.{statement}
-use Rattle.coo3d.proofs.is_unit_from_norm.Tie as tie
+use Rattle.coo3d.proofs.is_unit_from_norm.Goals as goal
 
 -- no comparison sees the sign of a zero
 below_zero : (t : Bool) (b : ℕ) → below true 0 t b ≡ below false 0 t b
@@ -44,12 +43,6 @@ larger_is_abs (fin true m e) y = by_size (ltb 0 (m * up e * down e + m * up e * 
     by_size true h = refl
     by_size false h = unsigned m e y (⊎_elim (λ z. z) (λ q. absurd (lt_irrefl 0 (omega (arith, mul-pos q (down_pos e), ltb-false 0 (m * up e * down e + m * up e * down e) h)))) (eq-zero-or-pos (m * up e)))
 
-max-requires : tie.Need-max-requires
-max-requires c κs = search rules
-
-returns : tie.Need-returns
+pub returns : goal.returns
 unfolding is_unit
 returns c = rw c.max.ensures (larger_is_abs _ _)
-
-pub is-unit-from-norm-spec : {M : Type 1} → statement M
-is-unit-from-norm-spec = tie.close (tie.spec max-requires returns)

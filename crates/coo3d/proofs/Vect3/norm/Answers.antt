@@ -1,0 +1,6 @@
+-- `coo3d::Vect3::norm` meets its contract. Assumes nothing.
+use borrow.Author.Rules.{rules}
+use Rattle.coo3d.proofs.Vect3.norm.Goals as goal
+
+pub returns : goal.returns
+returns c = simp (c.sqrt.ensures, c.squared_norm_of.ensures)

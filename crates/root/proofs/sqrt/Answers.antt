@@ -1,0 +1,122 @@
+-- `root::sqrt` meets its contract. Assumes nothing.
+use Rattle.std.proofs.Common.{◌≡◌, ℕ, ◌+◌, ◌-◌, ◌*◌, ◌/◌, ◌%◌, ◌^◌, ◌<◌, ◌≤◌, T, sym, ap, ◌∙◌, subst, mod-eq_of_lt, arith, rules}
+use lib.Count.{count_leading_zeros}
+use lib.Ieee.{Float, binary64, fits, of_bits, to_bits}
+use lib.Ieee.Bits.{of_bits-to_bits, to_bits-lt}
+use Rattle.float.proofs.Nan.{not_nan, nan_made}
+use Rattle.root.specs.Whole.{near_root}
+use Rattle.root.specs.Root.{sqrt_of}
+use Rattle.root.proofs.Bits.{of_nan, no_nan_bits, Shifted, shifted}
+use Rattle.root.proofs.Units.{of_zero, of_minus_zero, of_top, of_negative, of_normal, of_subnormal, normal_units, root_is, under_infinity}
+use Rattle.root.proofs.sqrt.Goals as goal
+use Rattle.root.proofs.sqrt.Goals.{After-finite-2, Else-b-ge9218868437227405312, Start, Then-wrapping_sub_u64-lt9214364837600034816}
+
+-- the argument's pattern, read back, is the argument
+back : (c : Start) → of_bits binary64 (to_bits binary64 c.args.a) ≡ c.args.a
+back c = of_bits-to_bits binary64 c.args.a (subst T (sym c.well_formed.0.1) tt)
+
+in_range : (c : Start) → to_bits binary64 c.args.a < 2 ^ 64
+in_range c = to_bits-lt binary64 c.args.a (subst T (sym c.well_formed.0.1) tt)
+
+-- the argument's pattern is that of a number above 0 and below 2 ^ -1022
+abbrev bits : Start → ℕ
+bits s = to_bits binary64 s.args.a
+
+low : (c : Else-b-ge9218868437227405312) → Shifted (bits c.before.before.before.before.before.before.before) (count_leading_zeros 64 (bits c.before.before.before.before.before.before.before))
+low c = let s = c.before.before.before.before.before.before.before in shifted (bits s) (omega arith) (omega (arith, in_range s))
+
+itself : (a : Float) (b : ℕ) → of_bits binary64 b ≡ a → sqrt_of (of_bits binary64 b) ≡ of_bits binary64 b → a ≡ sqrt_of a
+itself a b e h = subst (λ (x : Float). x ≡ sqrt_of x) e (sym h)
+
+pub returns-then-a : goal.returns-then-a
+returns-then-a c = of_nan c.args.a c.if-a.true
+
+pub float_to_bits-b : goal.float_to_bits-b
+float_to_bits-b c = not_nan c.args.a c.if-a.false
+
+-- the argument's pattern is that of a positive number that is not subnormal
+common : (c : Then-wrapping_sub_u64-lt9214364837600034816) → (2 ^ 52 ≤ bits c.before.before.before) × (bits c.before.before.before < 2047 * 2 ^ 52)
+common c = (omega arith, omega arith)
+
+pub float_from_bits-result : goal.float_from_bits-result
+float_from_bits-result c =
+    let a = (goal.at.float_from_bits-result c).Then-wrapping_sub_u64-lt9214364837600034816 in
+    let b = bits (goal.at.float_from_bits-result c).Start in
+    no_nan_bits c.finite.result
+    (subst (λ (x : ℕ). x < 2047 * 2 ^ 52) (sym c.finite.ensures)
+    (under_infinity ((2 ^ 52 + b % 2 ^ 52) * 2 ^ (b / 2 ^ 52 - 1)) (2 ^ 52 + b % 2 ^ 52) (b / 2 ^ 52 + 51) (normal_units b (common a).0) (omega arith) (omega arith) (omega (arith, (common a).1))))
+
+pub returns-then-wrapping_sub_u64-lt9214364837600034816 : goal.returns-then-wrapping_sub_u64-lt9214364837600034816
+returns-then-wrapping_sub_u64-lt9214364837600034816 c =
+    let a = (goal.at.returns-then-wrapping_sub_u64-lt9214364837600034816 c).Then-wrapping_sub_u64-lt9214364837600034816 in
+    let s = (goal.at.returns-then-wrapping_sub_u64-lt9214364837600034816 c).Start in
+    let b = bits s in
+    ap (λ (x : ℕ). of_bits binary64 x) c.finite.ensures
+    ∙ root_is ((2 ^ 52 + b % 2 ^ 52) * 2 ^ (b / 2 ^ 52 - 1)) (2 ^ 52 + b % 2 ^ 52) (b / 2 ^ 52 + 51) (normal_units b (common a).0) (omega arith) (omega arith) (omega (arith, (common a).1))
+    ∙ sym (ap sqrt_of (sym (back s)) ∙ of_normal b (common a).0 (common a).1)
+
+pub returns-then-b-eq0 : goal.returns-then-b-eq0
+returns-then-b-eq0 c = let s = (goal.at.returns-then-b-eq0 c).Start in itself s.args.a 0 (ap (λ (b : ℕ). of_bits binary64 b) (sym c.if-b-eq0.true) ∙ back s) of_zero
+
+pub returns-then-b : goal.returns-then-b
+returns-then-b c = let s = (goal.at.returns-then-b c).Start in itself s.args.a 0x8000_0000_0000_0000 (ap (λ (b : ℕ). of_bits binary64 b) (sym c.if-b.true) ∙ back s) of_minus_zero
+
+pub returns-then-b-gt9223372036854775808 : goal.returns-then-b-gt9223372036854775808
+returns-then-b-gt9223372036854775808 c =
+    let s = (goal.at.returns-then-b-gt9223372036854775808 c).Start in
+    nan_made ∙ sym (ap sqrt_of (sym (back s)) ∙ of_negative (bits s) c.if-b-gt9223372036854775808.true (in_range s))
+
+pub returns-then-b-ge9218868437227405312 : goal.returns-then-b-ge9218868437227405312
+returns-then-b-ge9218868437227405312 c =
+    let s = (goal.at.returns-then-b-ge9218868437227405312 c).Start in
+    itself s.args.a (bits s) (back s) (of_top (bits s) c.if-b-ge9218868437227405312.true (omega arith))
+
+whole : {m : ℕ} → m < 2 ^ 53 → m % 2 ^ 64 ≡ m
+whole h = mod-eq_of_lt (omega arith)
+
+pub overflow_cast-z : goal.overflow_cast-z
+overflow_cast-z c = let h = low c in record { fits = omega (arith, h.high) }
+
+pub overflow_sub-m : goal.overflow_sub-m
+overflow_sub-m c = (low c).low
+
+pub overflow_shl-m : goal.overflow_shl-m
+overflow_shl-m c = omega (arith, (low c).high)
+
+pub overflow_sub-z : goal.overflow_sub-z
+overflow_sub-z c = (low c).high
+
+pub overflow_sub-z-2 : goal.overflow_sub-z-2
+overflow_sub-z-2 c = (low c).high
+
+pub overflow_add-m : goal.overflow_add-m
+overflow_add-m c = record { fits = omega (arith, whole (low c).short, (low c).short) }
+
+pub finite-requires-2 : goal.finite-requires-2
+finite-requires-2 c = (subst (λ (x : ℕ). 2 ^ 52 ≤ x) (sym (whole (low c).short)) (low c).long, subst (λ (x : ℕ). x < 2 ^ 53) (sym (whole (low c).short)) (low c).short, omega arith)
+
+-- the pattern that `finite` returns, of m that is not cut
+abbrev pattern : ℕ → ℕ → ℕ
+pattern m f = (f / 2 + 485) * 2 ^ 52 + near_root (m * 2 ^ (f % 2) * 2 ^ 52)
+
+low_result : (c : After-finite-2) → let b = bits c.before.before.before.before.before.before.before.before in let z = count_leading_zeros 64 b in c.finite-2.result ≡ pattern (b * 2 ^ (z - 11)) (63 - z)
+low_result c =
+    let z = count_leading_zeros 64 (bits c.before.before.before.before.before.before.before.before) in
+    c.finite-2.ensures ∙ ap (λ (m : ℕ). pattern m (63 - z)) (whole (low c.before).short)
+
+pub float_from_bits-result-2 : goal.float_from_bits-result-2
+float_from_bits-result-2 c =
+    let b = bits (goal.at.float_from_bits-result-2 c).Start in
+    let z = count_leading_zeros 64 b in
+    let h = low (goal.at.float_from_bits-result-2 c).Else-b-ge9218868437227405312 in
+    no_nan_bits c.finite-2.result (subst (λ (x : ℕ). x < 2047 * 2 ^ 52) (sym (low_result c)) (under_infinity b (b * 2 ^ (z - 11)) (63 - z) h.units h.long h.short (omega arith)))
+
+pub returns : goal.returns
+returns c =
+    let s = (goal.at.returns c).Start in
+    let b = bits s in
+    let z = count_leading_zeros 64 b in
+    let h = low (goal.at.returns c).Else-b-ge9218868437227405312 in
+    ap (λ (x : ℕ). of_bits binary64 x) (low_result c)
+    ∙ root_is b (b * 2 ^ (z - 11)) (63 - z) h.units h.long h.short (omega arith)
+    ∙ sym (ap sqrt_of (sym (back s)) ∙ of_subnormal b (omega arith) (omega (arith, in_range s)))
