@@ -1,0 +1,16 @@
+-- `region::basic` meets its contract. Assumes nothing.
+use Prim.Native.Nat.{◌-◌, ◌≤◌}
+use native.Mathlib.Omega.{arith}
+use mathlib.Core.Path.{◌≡◌, sym, ◌∙◌}
+use borrow.Author.Rules.{rules}
+use lib.ListN.{length, take, drop}
+use Rattle.region.specs.Poles.{basic_from, basic_of}
+use Rattle.region.proofs.Corners.{basic_start, basic_turn, basic_done}
+use Rattle.region.proofs.basic.Given as goal
+
+abbrev pub invariant-loop-i : goal.invariant-loop-i
+invariant-loop-i l =
+    (l.i ≤ l.count) × (basic_from l.sum_delta_lon l.gravity_center_z l.from (drop l.i (take l.count l.vertices)) ≡ basic_of (take l.count l.vertices))
+
+abbrev pub decreases-loop-i : goal.decreases-loop-i
+decreases-loop-i l = l.count - l.i

@@ -1,0 +1,22 @@
+-- `region::build_flagged` meets its contract. Assumes nothing.
+use Prim.Native.Nat.{◌-◌}
+use native.Mathlib.Omega.{arith}
+use mathlib.Core.Path.{◌≡◌, refl, sym, ap, ◌∙◌}
+use lib.ListN.{length, take}
+use borrow.Author.Rules.{rules}
+use Rattle.domain.specs.Checks.{point_answer}
+use Rattle.region.proofs.Building.{Checking, checking_starts, checking_good, checking_bad, Working, working_starts, working_turn, seams_first, seams_next, not_built, no_points, many_points, ends}
+use Rattle.region.proofs.Seam.{Counting, counting_room}
+use Rattle.region.proofs.build_flagged.Given as goal
+
+abbrev pub invariant-loop-i : goal.invariant-loop-i
+invariant-loop-i l = Checking l.initial.region.vertices l.count l.flag l.region l.i
+
+abbrev pub decreases-loop-i : goal.decreases-loop-i
+decreases-loop-i l = l.count - l.i
+
+abbrev pub invariant-loop-k : goal.invariant-loop-k
+invariant-loop-k l = Working l.initial.region.vertices l.count l.flag l.region l.from l.k × Counting (take l.count l.initial.region.vertices) l.seam_count l.from l.k
+
+abbrev pub decreases-loop-k : goal.decreases-loop-k
+decreases-loop-k l = l.count - l.k

@@ -1,0 +1,30 @@
+-- `region::contains_south_pole` meets its contract. Assumes nothing.
+use mathlib.Core.Path.{sym, ap, ◌∙◌}
+use Rattle.domain.proofs.Counts.{count_none, count_many}
+use Rattle.refusal.specs.Answer.{answered}
+use Rattle.region.specs.Region.{flag_of, rule_answer}
+use Rattle.region.proofs.Rules.{no_zero, rule_again}
+use Rattle.region.proofs.Flags.{flag_checked, flag_refused}
+use borrow.Author.Rules.{rules}
+use Rattle.region.proofs.contains_south_pole.Goals as goal
+
+pub returns-then-count-eq0 : goal.returns-then-count-eq0
+unfolding flag_of
+returns-then-count-eq0 c = sym (count_none _ _ c.if-count-eq0.true)
+
+pub returns-then-count-gt64 : goal.returns-then-count-gt64
+unfolding flag_of
+returns-then-count-gt64 c = sym (count_many _ _ c.if-count-eq0.false c.if-count-gt64.true)
+
+pub flag_by_rule-requires : goal.flag_by_rule-requires
+flag_by_rule-requires c =
+    let told = ap rule_answer (sym c.in-Rule.is) ∙ c.check_rule.ensures in
+    (no_zero c.if-count-eq0.false, c.if-count-gt64.false, rule_again _ _ _ (sym told) 0)
+
+pub returns-in-Refused : goal.returns-in-Refused
+returns-in-Refused c = flag_refused _ _ c.if-count-eq0.false c.if-count-gt64.false _ _ (ap rule_answer (sym c.in-Refused.is) ∙ c.check_rule.ensures)
+
+pub returns-in-Rule : goal.returns-in-Rule
+returns-in-Rule c =
+    let told = ap rule_answer (sym c.in-Rule.is) ∙ c.check_rule.ensures in
+    c.decide.ensures ∙ ap answered c.flag_by_rule.ensures ∙ flag_checked _ _ c.if-count-eq0.false c.if-count-gt64.false _ told

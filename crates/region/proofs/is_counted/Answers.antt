@@ -1,0 +1,8 @@
+-- `region::is_counted` meets its contract. Assumes nothing.
+use Rattle.region.specs.Edges.{is_counted}
+use borrow.Author.Rules.{rules}
+use Rattle.region.proofs.is_counted.Goals as goal
+
+pub returns : goal.returns
+unfolding is_counted
+returns c = simp (c.is_in_lon_range.ensures, c.dot_product.ensures, c.to_vect3.ensures)
