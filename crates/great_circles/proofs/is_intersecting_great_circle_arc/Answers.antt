@@ -1,0 +1,8 @@
+-- `great_circles::is_intersecting_great_circle_arc` meets its contract. Assumes nothing.
+use mathlib.Core.Path.{ap, ◌∙◌}
+use Rattle.crossings.specs.Crossings.{intersecting_of}
+use borrow.Author.Rules.{rules}
+use Rattle.great_circles.proofs.is_intersecting_great_circle_arc.Goals as goal
+
+pub returns : goal.returns
+returns c = c.is_intersecting.ensures ∙ ap intersecting_of c.intersect_great_circle_arc.ensures
