@@ -51,7 +51,7 @@ pub extern "C" fn jigwandor_contains(file: &[u8], x: f64, y: f64, z: f64, lon: f
 // Sets the file's flag field so that its region contains the point: 0, or 16 plus the refusal's number, and then every byte is left.
 #[unsafe(no_mangle)]
 pub extern "C" fn jigwandor_hold(file: &mut [u8], x: f64, y: f64, z: f64, lon: f64, lat: f64) -> u32
-    ensures value { result ≡ hold_code file.old (record { x = x; y = y; z = z; lon = lon; lat = lat }) }
+    ensures answer { result ≡ hold_code file.old (record { x = x; y = y; z = z; lon = lon; lat = lat }) }
     ensures file_after { file.new ≡ held_file file.old (record { x = x; y = y; z = z; lon = lon; lat = lat }) }
 {
     let read = region_file::read(file);

@@ -176,7 +176,7 @@ fn put_trailer(s: &mut [u8], at: usize, flag: bool, count: usize)
 
 // Fills the front of the output and touches no later byte.
 pub fn write(r: Region, out: &mut [u8]) -> WriteAnswer
-    ensures result_value { write_answer result ≡ write_of (view_of r) (length out.old) }
+    ensures answer { write_answer result ≡ write_of (view_of r) (length out.old) }
     ensures out_after { out.new ≡ output_of (view_of r) out.old }
 {
     let count = r.count;
@@ -202,7 +202,7 @@ pub fn write(r: Region, out: &mut [u8]) -> WriteAnswer
 
 // Sets the flag field in place; a trailer that is refused leaves every byte.
 pub fn set_flag(file: &mut [u8], flag: bool) -> Outcome
-    ensures true_value { outcome_of result true ≡ verdict (trailer_of file.old) }
+    ensures answer { outcome_of result true ≡ verdict (trailer_of file.old) }
     ensures file_after { file.new ≡ with_flag_field file.old flag }
 {
     match read_trailer(file) {

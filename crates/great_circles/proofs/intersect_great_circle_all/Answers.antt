@@ -23,13 +23,11 @@ use Rattle.coo3d.specs.declared.Vect3.{Vect3}
 use Rattle.domain.specs.Checks.{vector_answer, vector_at, with_count}
 use Rattle.domain.proofs.Points.{vector_refused}
 use Rattle.great_circles.proofs.intersect_great_circle_all.Goals as goal
-use Rattle.great_circles.proofs.intersect_great_circle_all.Goals.{After-from-1, After-test_finite, At-loop-i, Start}
+use Rattle.great_circles.proofs.intersect_great_circle_all.Goals.{After-test_finite, In-Vector}
 
-long : (c : Start) → c.args.r.count ≤ 64 → c.args.r.count ≤ length c.args.r.vertices
-long c h = let e : length c.args.r.vertices ≡ 64 = search unmap in omega arith
-
-long' : (c : Start) → c.args.r.count ≤ 64 → c.args.r.count ≤ length c.args.r.cross_products
-long' c h = let e : length c.args.r.cross_products ≡ 64 = search unmap in omega arith
+-- an array of 64 has the entries that a count takes in
+long : (n m : ℕ) → m ≡ 64 → n ≤ 64 → n ≤ m
+long n m e h = omega arith
 
 module _ {A : Type 0} (count : ℕ) (n : Vect3) (next : Vect3 → Answer A) (some : count ≡ 0 → ⊥) (fits : count ≤ 64) where
   outside : (k : ℕ) (vs : List ℕ) → refused k vs ≡ vector_at 0 n → with_count count (and_then (vector_at 0 n) next) ≡ refused 1 (0 ∷ [])
@@ -38,35 +36,21 @@ module _ {A : Type 0} (count : ℕ) (n : Vect3) (next : Vect3 → Answer A) (som
   inside : (m : Vect3) → answered m ≡ vector_at 0 n → next m ≡ with_count count (and_then (vector_at 0 n) next)
   inside m e = sym (count_few count _ some fits ∙ rw (sym e))
 
--- the crossing of an edge, and the answer, once the arguments are checked
-module _ (x : After-from-1) where
-  abbrev start_of : Start
-  start_of = x.before.before.before.before.before.before.before.before
-
-  abbrev region : Region
-  region = start_of.args.r
-
-  abbrev hit : Edge → Crossing
-  hit = circle_crossing x.in-Vector.m
-
-  few : region.count ≤ 64
-  few = x.if-count-gt64.left
-
-  whole : all_of (crossings_of hit (edges_of (view_of region))) ≡ circle_all_of (view_of region) start_of.args.n
-  unfolding circle_all_of
-  whole = inside region.count start_of.args.n (λ k. all_of (crossings_of (circle_crossing k) (edges_of (view_of region)))) x.if-count-eq0.left few _ (ap vector_answer (sym x.in-Vector.is) ∙ x.check_vector.ensures)
+-- the answer, once the argument is checked
+whole : (x : In-Vector) → all_of (crossings_of (circle_crossing x.in-Vector.m) (edges_of (view_of x.args.r))) ≡ circle_all_of (view_of x.args.r) x.args.n
+unfolding circle_all_of
+whole x =
+    let r = x.args.r in
+    inside r.count x.args.n (λ k. all_of (crossings_of (circle_crossing k) (edges_of (view_of r)))) x.if-count-eq0.false x.if-count-gt64.false _ (ap vector_answer (sym x.in-Vector.is) ∙ x.check_vector.ensures)
 
 -- the turn of the loop
-module _ (y : After-test_finite) where
-  abbrev now : At-loop-i
-  now = y.before.before.before.before.before
-
-  here : let x = now in
-      let l = now.loop in
-      Turn (hit x) (edges_left (region x) l.from l.i) (edges_left (region x) (get_or (region x).vertices l.i nowhere) (l.i + 1)) y.test_finite.result
-  here =
-      let x = now in
-      turned (turn (region x) _ _ (long (start_of x) (few x)) (long' (start_of x) (few x)) y.loop-i-test.taken) y.circle_crossing.ensures y.test_finite.ensures
+here : (y : After-test_finite) → Turn (circle_crossing y.in-Vector.m) (edges_left y.args.r y.loop-i.from y.loop-i.i) (edges_left y.args.r (get_or y.args.r.vertices y.loop-i.i nowhere) (y.loop-i.i + 1)) y.test_finite.result
+here y =
+    let r = y.args.r in
+    let e : length r.vertices ≡ 64 = search unmap in
+    let d : length r.cross_products ≡ 64 = search unmap in
+    let few = y.if-count-gt64.false in
+    turned (turn r _ _ (long _ _ e few) (long _ _ d few) y.loop-i-test.true) y.circle_crossing.ensures y.test_finite.ensures
 
 pub returns-then-count-eq0 : goal.returns-then-count-eq0
 unfolding circle_all_of
@@ -81,25 +65,32 @@ unfolding circle_all_of
 returns-in_default c = subst (Lists _) (sym (outside _ _ _ c.if-count-eq0.false c.if-count-gt64.false _ _ (ap vector_answer (sym c.in_default.is) ∙ c.check_vector.ensures))) c.refused-in_default.ensures
 
 pub loop-i-init : goal.loop-i-init
-loop-i-init c = (omega arith, gathered_start (omega (arith, edges_length (region c), few c)) c.no_points-points.ensures (start (region c) (omega (arith, c.if-count-eq0.false)) (long (start_of c) (few c))))
+loop-i-init c =
+    let r = c.args.r in
+    let few = c.if-count-gt64.false in
+    let e : length r.vertices ≡ 64 = search unmap in
+    (omega arith, gathered_start (omega (arith, edges_length r, few)) c.no_points-points.ensures (start r (omega (arith, c.if-count-eq0.false)) (long _ _ e few)))
 
 pub returns-in_default-test_finite : goal.returns-in_default-test_finite
 returns-in_default-test_finite c =
     let y = (goal.at.returns-in_default-test_finite c).After-test_finite in
-    let x = (now y).before in
-    gathered_refused (now y).loop.invariant.1 _ (whole x) (here y) _ c.in_default-test_finite.is _ c.refused-in_default-test_finite.ensures
+    let x = (goal.at.returns-in_default-test_finite c).In-Vector in
+    gathered_refused c.loop-i.invariant.1 _ (whole x) (here y) _ c.in_default-test_finite.is _ c.refused-in_default-test_finite.ensures
 
 pub loop-i-preserved : goal.loop-i-preserved
 loop-i-preserved c =
     let y = (goal.at.loop-i-preserved c).After-test_finite in
     let t = c.in-Crossing.is in
-    ⊎_elim
-    (λ w. (search rules, gathered_at (here y) (now y).loop.invariant.1 _ (t ∙ ap tested.Crossing w.1.given.1) w.3 w.4))
-    (λ w. (search rules, gathered_none (here y) (now y).loop.invariant.1 (t ∙ ap tested.Crossing w.1.given.1) w.2 w.3))
-    c.match-c.branch
+    let g = c.loop-i.invariant.1 in
+    elim c.match-c.branch [
+      | goal.in-At w ↦ (search rules, gathered_at (here y) g _ (t ∙ ap tested.Crossing w.in-At.is) w.points-is w.len-is)
+      | goal.in-None w ↦ (search rules, gathered_none (here y) g (t ∙ ap tested.Crossing w.in-None.is) w.points-is w.len-is)
+    ]
 
 pub returns : goal.returns
 returns c =
-    let x = (goal.at.returns c).After-from-1 in
+    let x = (goal.at.returns c).In-Vector in
+    let r = c.args.r in
     let l = c.loop-i in
-    gathered_done l.invariant.1 _ (whole x) (done (region x) l.from l.i (long (start_of x) (few x)) c.loop-i-test.false)
+    let e : length r.vertices ≡ 64 = search unmap in
+    gathered_done l.invariant.1 _ (whole x) (done r l.from l.i (long _ _ e c.if-count-gt64.false) c.loop-i-test.false)

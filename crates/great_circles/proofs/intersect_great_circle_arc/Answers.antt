@@ -3,7 +3,6 @@ use Prim.Native.Nat.{ℕ, ◌+◌, ◌-◌, ◌≤◌}
 use native.Mathlib.Omega.{arith}
 use mathlib.Core.Path.{◌≡◌, sym, ap, ◌∙◌}
 use mathlib.Core.List.{List, [], ◌∷◌}
-use mathlib.Core.Logic.{⊎_elim}
 use borrow.Author.Rules.{rules}
 use lib.ListN.{length}
 use Rattle.crossings.specs.declared.Crossing.{Crossing}
@@ -23,81 +22,67 @@ use Rattle.great_circles.proofs.Checked.{first_outside, second_outside, both_ins
 use Rattle.region.proofs.Held.{held_edges}
 use Rattle.great_circles.proofs.Passing.{edges_by, left_by, edge_by, Stands, next_edge, stands_next, none_left, stands_first, all_left, Numbers, apart, one_side, crossed}
 use Rattle.great_circles.proofs.intersect_great_circle_arc.Goals as goal
-use Rattle.great_circles.proofs.intersect_great_circle_arc.Goals.{After-are_overlapping_in_lon, After-last-1, After-test_finite, Start}
+use Rattle.great_circles.proofs.intersect_great_circle_arc.Goals.{After-are_overlapping_in_lon, After-test_finite, After-to_vect3-b_vect, Start}
 
--- the crossing of an edge, and the answer, once the points are checked
-module _ (x : After-last-1) where
-  abbrev start_of : Start
-  start_of = x.before.before.before.before.before.before.before.before.before.before.before.before.before.before.before.before.before
+lengths : (c : Start) → (length c.args.r.vertices ≡ 64) × (length c.args.r.cross_products ≡ 64)
+lengths c = (search unmap, search unmap)
 
-  abbrev region : Region
-  region = start_of.args.r
-
-  abbrev hit : Edge → Crossing
-  hit = arc_crossing x.west_of-west.result x.east_of-east.result
-
-  some : region.count ≡ 0 → ⊥
-  some = x.if-count-eq0.left
-
-  few : region.count ≤ 64
-  few = x.if-count-gt64.left
-
-  whole : first_of (crossings_of hit (edges_by region.vertices region.cross_products region.count)) ≡ arc_first_of (view_of region) start_of.args.a start_of.args.b
-  unfolding arc_first_of
-  whole =
-      ap (λ (es : List Edge). first_of (crossings_of hit es)) (held_edges region)
-      ∙ ap first_of (by_longitude (view_of region) _ _ _ _ x.west_of-west.ensures x.east_of-east.ensures)
-      ∙ sym
-      (both_inside region.count start_of.args.a start_of.args.b (λ p q. first_of (arc_crossings (view_of region) p q)) some few _
-      (ap point_answer (sym x.in-Point.is) ∙ x.check_point.ensures)
-      _
-      (ap point_answer (sym x.in-Point-check_point.is) ∙ x.check_point-2.ensures))
+-- the answer, once the points are checked
+whole : (x : After-to_vect3-b_vect) → first_of (crossings_of (arc_crossing x.west_of-west.result x.east_of-east.result) (edges_by x.args.r.vertices x.args.r.cross_products x.args.r.count)) ≡ arc_first_of (view_of x.args.r) x.args.a x.args.b
+unfolding arc_first_of
+whole x =
+    let r = x.args.r in
+    ap (λ (es : List Edge). first_of (crossings_of (arc_crossing x.west_of-west.result x.east_of-east.result) es)) (held_edges r)
+    ∙ ap first_of (by_longitude (view_of r) _ _ _ _ x.west_of-west.ensures x.east_of-east.ensures)
+    ∙ sym
+    (both_inside r.count x.args.a x.args.b (λ p q. first_of (arc_crossings (view_of r) p q)) x.if-count-eq0.false x.if-count-gt64.false _
+    (ap point_answer (sym x.in-Point.is) ∙ x.check_point.ensures)
+    _
+    (ap point_answer (sym x.in-Point-check_point.is) ∙ x.check_point-2.ensures))
 
 -- the edge of a turn, and what its crossing is to the answer
 module _ (z : After-are_overlapping_in_lon) where
-  abbrev before-loop : After-last-1
-  before-loop = z.before.before.before.before.before.before.before
+  abbrev region : Region
+  region = z.args.r
+
+  abbrev hit : Edge → Crossing
+  hit = arc_crossing z.west_of-west.result z.east_of-east.result
 
   abbrev at : ℕ
   at = z.loop-i.i
 
   abbrev edge : Edge
-  edge = edge_by (region before-loop).vertices (region before-loop).cross_products z.loop-i.before at
+  edge = edge_by region.vertices region.cross_products z.loop-i.before at
 
   abbrev rest : List Edge
-  rest = left_by (region before-loop).vertices (region before-loop).cross_products (region before-loop).count at (at + 1)
+  rest = left_by region.vertices region.cross_products region.count at (at + 1)
 
-  left : first_of (crossings_of (hit before-loop) (edge ∷ rest)) ≡ first_of (crossings_of (hit before-loop) (edges_by (region before-loop).vertices (region before-loop).cross_products (region before-loop).count))
-  left = ap (λ (es : List Edge). first_of (crossings_of (hit before-loop) es)) (sym (next_edge z.loop-i.inv.0 z.loop-i-test.taken)) ∙ z.loop-i.inv.1
+  left : first_of (crossings_of hit (edge ∷ rest)) ≡ first_of (crossings_of hit (edges_by region.vertices region.cross_products region.count))
+  left = ap (λ (es : List Edge). first_of (crossings_of hit es)) (sym (next_edge z.loop-i.invariant.0 z.loop-i-test.true)) ∙ z.loop-i.invariant.1
 
   -- a turn with no crossing
-  passed : tested_of (hit before-loop edge) ≡ answered None → first_of (crossings_of (hit before-loop) rest) ≡ first_of (crossings_of (hit before-loop) (edges_by (region before-loop).vertices (region before-loop).cross_products (region before-loop).count))
-  passed e = sym (first_passed (hit before-loop) edge rest e) ∙ left
+  passed : tested_of (hit edge) ≡ answered None → first_of (crossings_of hit rest) ≡ first_of (crossings_of hit (edges_by region.vertices region.cross_products region.count))
+  passed e = sym (first_passed hit edge rest e) ∙ left
 
-  numbers : Numbers before-loop.west_of-west.result before-loop.east_of-east.result edge z.are_overlapping_in_lon.result before-loop.to_vect3-a_vect.result before-loop.to_vect3-b_vect.result
+  numbers : Numbers z.west_of-west.result z.east_of-east.result edge z.are_overlapping_in_lon.result z.to_vect3-a_vect.result z.to_vect3-b_vect.result
   numbers =
       record {
         from_lon = _;
         lower = _;
         higher = _;
-        from_lon_is = z.loop-i.inv.0.lon_is;
+        from_lon_is = z.loop-i.invariant.0.lon_is;
         lower_is = z.lower_lon.ensures;
         higher_is = z.max.ensures;
         over_is = z.are_overlapping_in_lon.ensures;
-        va_is = before-loop.to_vect3-a_vect.ensures;
-        vb_is = before-loop.to_vect3-b_vect.ensures;
+        va_is = z.to_vect3-a_vect.ensures;
+        vb_is = z.to_vect3-b_vect.ensures;
       }
 
 -- what the test of the crossing told
-module _ (y : After-test_finite) where
-  abbrev of-edge : After-are_overlapping_in_lon
-  of-edge = y.before.before.before.before.before.before.before
-
-  told : tested_answer y.test_finite.result ≡ tested_of (hit (before-loop of-edge) (edge of-edge))
-  told = y.test_finite.ensures ∙ ap tested_of (crossed (numbers of-edge) y.dot_product-ua.ensures y.dot_product-ub.ensures y.if-are_overlapping_in_lon.taken y.if-ua-ub.taken y.point_in_edge.ensures)
-
-lengths : (c : Start) → (length c.args.r.vertices ≡ 64) × (length c.args.r.cross_products ≡ 64)
-lengths c = (search unmap, search unmap)
+told : (y : After-test_finite) → tested_answer y.test_finite.result ≡ tested_of (arc_crossing y.west_of-west.result y.east_of-east.result (edge_by y.args.r.vertices y.args.r.cross_products y.loop-i.before y.loop-i.i))
+told y =
+    let z = y.before.before.before.before.before.before.before in
+    y.test_finite.ensures ∙ ap tested_of (crossed (numbers z) y.dot_product-ua.ensures y.dot_product-ub.ensures y.if-are_overlapping_in_lon.true y.if-ua-ub.true y.point_in_edge.ensures)
 
 pub returns-then-count-eq0 : goal.returns-then-count-eq0
 unfolding arc_first_of
@@ -126,37 +111,40 @@ bounds-vertices-before c = omega (arith, c.if-count-eq0.false, c.if-count-gt64.f
 
 pub loop-i-init : goal.loop-i-init
 loop-i-init c =
-    let l = lengths (start_of c) in
-    (stands_first _ _ _ (some c) (few c) l.0 l.1, ap (λ (es : List Edge). first_of (crossings_of (hit c) es)) (sym (all_left _ _ _ (some c) (few c) l.0 l.1)))
+    let r = c.args.r in
+    let some = c.if-count-eq0.false in
+    let few = c.if-count-gt64.false in
+    let l = lengths (goal.at.loop-i-init c).Start in
+    (stands_first _ _ _ some few l.0 l.1, ap (λ (es : List Edge). first_of (crossings_of (arc_crossing c.west_of-west.result c.east_of-east.result) es)) (sym (all_left _ _ _ some few l.0 l.1)))
 
 pub returns-in_default-test_finite : goal.returns-in_default-test_finite
 returns-in_default-test_finite c =
     let y = (goal.at.returns-in_default-test_finite c).After-test_finite in
-    let z = of-edge y in
-    let x = before-loop z in
-    sym (first_refused (hit x) (edge z) (rest z) 6 [] (tested_refused (hit x (edge z)) _ _ (ap tested_answer (sym c.in_default-test_finite.is) ∙ told y))) ∙ left z ∙ whole x
+    let z = (goal.at.returns-in_default-test_finite c).After-are_overlapping_in_lon in
+    let x = (goal.at.returns-in_default-test_finite c).After-to_vect3-b_vect in
+    sym (first_refused (hit z) (edge z) (rest z) 6 [] (tested_refused (hit z (edge z)) _ _ (ap tested_answer (sym c.in_default-test_finite.is) ∙ told y))) ∙ left z ∙ whole x
 
 pub returns-in-At : goal.returns-in-At
 returns-in-At c =
     let y = (goal.at.returns-in-At c).After-test_finite in
-    let z = of-edge y in
-    let x = before-loop z in
+    let z = (goal.at.returns-in-At c).After-are_overlapping_in_lon in
+    let x = (goal.at.returns-in-At c).After-to_vect3-b_vect in
     let e = sym (told y) ∙ ap tested_answer c.in-Crossing.is ∙ ap answered c.in-At.is in
-    sym (first_found (hit x) (edge z) (rest z) _ e) ∙ left z ∙ whole x
+    sym (first_found (hit z) (edge z) (rest z) _ e) ∙ left z ∙ whole x
 
 pub loop-i-preserved : goal.loop-i-preserved
 loop-i-preserved c =
     let z = (goal.at.loop-i-preserved c).After-are_overlapping_in_lon in
     let on = stands_next z.loop-i.invariant.0 z.loop-i-test.true in
-    ⊎_elim
-    (λ w. (on, passed z (sym (ap tested_of (crossed (numbers z) w.1.ensures w.2.ensures w.0.taken w.3.taken w.5.ensures)) ∙ sym w.6.ensures ∙ ap tested_answer w.8.given.1 ∙ ap answered w.11.given.1)))
-    (⊎_elim
-    (λ w. (on, passed z (sym (ap tested_of (one_side (numbers z) w.1.ensures w.2.ensures w.0.taken w.3.left)))))
-    (λ w. (on, passed z (sym (ap tested_of (apart (numbers z) w.left))))))
-    c.if-are_overlapping_in_lon.branch
+    elim c.if-are_overlapping_in_lon.branch [
+      | goal.then-are_overlapping_in_lon+then-ua-ub+in-Crossing+in-None w ↦ (on, passed z (sym (ap tested_of (crossed (numbers z) w.dot_product-ua.ensures w.dot_product-ub.ensures w.if-are_overlapping_in_lon.true w.if-ua-ub.true w.point_in_edge.ensures)) ∙ sym w.test_finite.ensures ∙ ap tested_answer w.in-Crossing.is ∙ ap answered w.in-None.is))
+      | goal.then-are_overlapping_in_lon+else-ua-ub w ↦ (on, passed z (sym (ap tested_of (one_side (numbers z) w.dot_product-ua.ensures w.dot_product-ub.ensures w.if-are_overlapping_in_lon.true w.if-ua-ub.false))))
+      | goal.else-are_overlapping_in_lon w ↦ (on, passed z (sym (ap tested_of (apart (numbers z) w.if-are_overlapping_in_lon.false))))
+    ]
 
 pub returns : goal.returns
 returns c =
-    let x = (goal.at.returns c).After-last-1 in
+    let x = (goal.at.returns c).After-to_vect3-b_vect in
     let l = c.loop-i in
-    sym (first_none_left (hit x)) ∙ ap (λ (es : List Edge). first_of (crossings_of (hit x) es)) (sym (none_left l.invariant.0 c.loop-i-test.false)) ∙ l.invariant.1 ∙ whole x
+    let hit = arc_crossing c.west_of-west.result c.east_of-east.result in
+    sym (first_none_left hit) ∙ ap (λ (es : List Edge). first_of (crossings_of hit es)) (sym (none_left l.invariant.0 c.loop-i-test.false)) ∙ l.invariant.1 ∙ whole x

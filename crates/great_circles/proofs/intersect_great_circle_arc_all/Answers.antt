@@ -25,92 +25,66 @@ use Rattle.great_circles.proofs.Checked.{first_outside, second_outside, both_ins
 use Rattle.region.proofs.Held.{held, held_edges}
 use Rattle.great_circles.proofs.Passing.{edges_by, left_by, edge_by, Stands, next_edge, stands_next, none_left, stands_first, all_left, Numbers, apart, one_side, crossed}
 use Rattle.great_circles.proofs.intersect_great_circle_arc_all.Goals as goal
-use Rattle.great_circles.proofs.intersect_great_circle_arc_all.Goals.{After-are_overlapping_in_lon, After-last-1, After-test_finite, At-loop-i, Start}
+use Rattle.great_circles.proofs.intersect_great_circle_arc_all.Goals.{After-are_overlapping_in_lon, After-to_vect3-b_vect, Start}
 
 lengths : (c : Start) → (length c.args.r.vertices ≡ 64) × (length c.args.r.cross_products ≡ 64)
 lengths c = (search unmap, search unmap)
 
--- the crossing of an edge, and the answer, once the points are checked
-module _ (x : After-last-1) where
-  abbrev start_of : Start
-  start_of = x.before.before.before.before.before.before.before.before.before.before.before.before.before.before.before.before.before.before
-
-  abbrev region : Region
-  region = start_of.args.r
-
-  abbrev hit : Edge → Crossing
-  hit = arc_crossing x.west_of-west.result x.east_of-east.result
-
-  some : region.count ≡ 0 → ⊥
-  some = x.if-count-eq0.left
-
-  few : region.count ≤ 64
-  few = x.if-count-gt64.left
-
-  whole : all_of (crossings_of hit (edges_by region.vertices region.cross_products region.count)) ≡ arc_all_of (view_of region) start_of.args.a start_of.args.b
-  unfolding arc_all_of
-  whole =
-      ap (λ (es : List Edge). all_of (crossings_of hit es)) (held_edges region)
-      ∙ ap all_of (by_longitude (view_of region) _ _ _ _ x.west_of-west.ensures x.east_of-east.ensures)
-      ∙ sym
-      (both_inside region.count start_of.args.a start_of.args.b (λ p q. all_of (arc_crossings (view_of region) p q)) some few _
-      (ap point_answer (sym x.in-Point.is) ∙ x.check_point.ensures)
-      _
-      (ap point_answer (sym x.in-Point-check_point.is) ∙ x.check_point-2.ensures))
+-- the answer, once the points are checked
+whole : (x : After-to_vect3-b_vect) → all_of (crossings_of (arc_crossing x.west_of-west.result x.east_of-east.result) (edges_by x.args.r.vertices x.args.r.cross_products x.args.r.count)) ≡ arc_all_of (view_of x.args.r) x.args.a x.args.b
+unfolding arc_all_of
+whole x =
+    let r = x.args.r in
+    ap (λ (es : List Edge). all_of (crossings_of (arc_crossing x.west_of-west.result x.east_of-east.result) es)) (held_edges r)
+    ∙ ap all_of (by_longitude (view_of r) _ _ _ _ x.west_of-west.ensures x.east_of-east.ensures)
+    ∙ sym
+    (both_inside r.count x.args.a x.args.b (λ p q. all_of (arc_crossings (view_of r) p q)) x.if-count-eq0.false x.if-count-gt64.false _
+    (ap point_answer (sym x.in-Point.is) ∙ x.check_point.ensures)
+    _
+    (ap point_answer (sym x.in-Point-check_point.is) ∙ x.check_point-2.ensures))
 
 -- the edge of a turn
 module _ (z : After-are_overlapping_in_lon) where
-  abbrev now : At-loop-i
-  now = z.before.before.before.before.before.before
+  abbrev region : Region
+  region = z.args.r
 
-  abbrev before-loop : After-last-1
-  before-loop = now
+  abbrev hit : Edge → Crossing
+  hit = arc_crossing z.west_of-west.result z.east_of-east.result
 
   abbrev edge : Edge
-  edge = edge_by (region before-loop).vertices (region before-loop).cross_products now.loop-i now.loop.i
+  edge = edge_by region.vertices region.cross_products z.loop-i.before z.loop-i.i
 
-  on : now.loop.i < (region before-loop).count
-  on = z.loop-i-test.taken
+  in_count : z.loop-i.i < 64
+  in_count = omega (arith, z.loop-i-test.true, z.if-count-gt64.false)
 
-  in_count : now.loop.i < 64
-  in_count = omega (arith, on, few before-loop)
-
-  in_array : now.loop.len < 64
-  in_array = omega (arith, in_count, now.loop.inv.1.few)
+  in_array : z.loop-i.len < 64
+  in_array = omega (arith, in_count, z.loop-i.invariant.1.few)
 
   abbrev Told : Tested → Type 0
   Told t =
-      Turn (hit before-loop) (left_by (region before-loop).vertices (region before-loop).cross_products (region before-loop).count now.loop-i now.loop.i)
-      (left_by (region before-loop).vertices (region before-loop).cross_products (region before-loop).count now.loop.i (now.loop.i + 1))
+      Turn hit (left_by region.vertices region.cross_products region.count z.loop-i.before z.loop-i.i)
+      (left_by region.vertices region.cross_products region.count z.loop-i.i (z.loop-i.i + 1))
       t
 
-  here : {t : Tested} {c : Crossing} → c ≡ hit before-loop edge → tested_answer t ≡ tested_of c → Told t
-  here e t = turned (next_edge now.loop.inv.0 on) e t
+  here : {t : Tested} {c : Crossing} → c ≡ hit edge → tested_answer t ≡ tested_of c → Told t
+  here e t = turned (next_edge z.loop-i.invariant.0 z.loop-i-test.true) e t
 
-  no_crossing : None ≡ hit before-loop edge → Told (tested.Crossing None)
+  no_crossing : None ≡ hit edge → Told (tested.Crossing None)
   no_crossing e = here e refl
 
-  numbers : Numbers before-loop.west_of-west.result before-loop.east_of-east.result edge z.are_overlapping_in_lon.result before-loop.to_vect3-a_vect.result before-loop.to_vect3-b_vect.result
+  numbers : Numbers z.west_of-west.result z.east_of-east.result edge z.are_overlapping_in_lon.result z.to_vect3-a_vect.result z.to_vect3-b_vect.result
   numbers =
       record {
         from_lon = _;
         lower = _;
         higher = _;
-        from_lon_is = z.loop-i.inv.0.lon_is;
+        from_lon_is = z.loop-i.invariant.0.lon_is;
         lower_is = z.lower_lon.ensures;
         higher_is = z.max.ensures;
         over_is = z.are_overlapping_in_lon.ensures;
-        va_is = before-loop.to_vect3-a_vect.ensures;
-        vb_is = before-loop.to_vect3-b_vect.ensures;
+        va_is = z.to_vect3-a_vect.ensures;
+        vb_is = z.to_vect3-b_vect.ensures;
       }
-
--- what the test of the crossing told
-module _ (y : After-test_finite) where
-  abbrev of-edge : After-are_overlapping_in_lon
-  of-edge = y.before.before.before.before.before.before.before
-
-  told : Told of-edge y.test_finite.result
-  told = here of-edge (crossed (numbers of-edge) y.dot_product-ua.ensures y.dot_product-ub.ensures y.if-are_overlapping_in_lon.taken y.if-ua-ub.taken y.point_in_edge.ensures) y.test_finite.ensures
 
 pub returns-then-count-eq0 : goal.returns-then-count-eq0
 unfolding arc_all_of
@@ -139,14 +113,18 @@ bounds-vertices-before c = omega (arith, c.if-count-eq0.false, c.if-count-gt64.f
 
 pub loop-i-init : goal.loop-i-init
 loop-i-init c =
-    let l = lengths (start_of c) in
-    (stands_first _ _ _ (some c) (few c) l.0 l.1, gathered_start (omega (arith, edges_length (held (region c).vertices (region c).cross_products (region c).count), few c)) c.no_points-points.ensures (all_left _ _ _ (some c) (few c) l.0 l.1))
+    let r = c.args.r in
+    let some = c.if-count-eq0.false in
+    let few = c.if-count-gt64.false in
+    let l = lengths (goal.at.loop-i-init c).Start in
+    (stands_first _ _ _ some few l.0 l.1, gathered_start (omega (arith, edges_length (held r.vertices r.cross_products r.count), few)) c.no_points-points.ensures (all_left _ _ _ some few l.0 l.1))
 
 pub returns-in_default-test_finite : goal.returns-in_default-test_finite
 returns-in_default-test_finite c =
-    let y = (goal.at.returns-in_default-test_finite c).After-test_finite in
-    let z = of-edge y in
-    gathered_refused (now z).loop.inv.1 _ (whole (before-loop z)) (told y) _ c.in_default-test_finite.is _ c.refused-in_default-test_finite.ensures
+    let z = (goal.at.returns-in_default-test_finite c).After-are_overlapping_in_lon in
+    let x = (goal.at.returns-in_default-test_finite c).After-to_vect3-b_vect in
+    let told = here z (crossed (numbers z) c.dot_product-ua.ensures c.dot_product-ub.ensures c.if-are_overlapping_in_lon.true c.if-ua-ub.true c.point_in_edge.ensures) c.test_finite.ensures in
+    gathered_refused c.loop-i.invariant.1 _ (whole x) told _ c.in_default-test_finite.is _ c.refused-in_default-test_finite.ensures
 
 pub offset_bounds-points-len : goal.offset_bounds-points-len
 offset_bounds-points-len c = omega (arith, in_array (goal.at.offset_bounds-points-len c).After-are_overlapping_in_lon)
@@ -163,21 +141,20 @@ overflow_add-i c = omega (arith, in_count (goal.at.overflow_add-i c).After-are_o
 pub loop-i-preserved : goal.loop-i-preserved
 loop-i-preserved c =
     let z = (goal.at.loop-i-preserved c).After-are_overlapping_in_lon in
-    let g = (now z).loop.invariant.1 in
-    let next = stands_next (now z).loop.invariant.0 (on z) in
-    ⊎_elim
-    (λ w.
-    (next, gathered_at (here z (crossed (numbers z) w.1.ensures w.2.ensures w.0.taken w.3.taken w.5.ensures) w.6.ensures) g _ (w.8.given.1 ∙ ap tested.Crossing w.11.given.1) w.13 w.14))
-    (⊎_elim
-    (λ w.
-    (next, gathered_none (here z (crossed (numbers z) w.1.ensures w.2.ensures w.0.taken w.3.taken w.5.ensures) w.6.ensures) g (w.8.given.1 ∙ ap tested.Crossing w.11.given.1) w.12 w.13))
-    (⊎_elim
-    (λ w. (next, gathered_none (no_crossing z (one_side (numbers z) w.1.ensures w.2.ensures w.0.taken w.3.left)) g refl w.4 w.5))
-    (λ w. (next, gathered_none (no_crossing z (apart (numbers z) w.0.left)) g refl w.1 w.2))))
-    c.if-are_overlapping_in_lon.branch
+    let g = c.loop-i.invariant.1 in
+    let next = stands_next c.loop-i.invariant.0 c.loop-i-test.true in
+    elim c.if-are_overlapping_in_lon.branch [
+      | goal.then-are_overlapping_in_lon+then-ua-ub+in-Crossing+in-At w ↦
+        (next, gathered_at (here z (crossed (numbers z) w.dot_product-ua.ensures w.dot_product-ub.ensures w.if-are_overlapping_in_lon.true w.if-ua-ub.true w.point_in_edge.ensures) w.test_finite.ensures) g _ (w.in-Crossing.is ∙ ap tested.Crossing w.in-At.is) w.points-is w.len-is)
+      | goal.then-are_overlapping_in_lon+then-ua-ub+in-Crossing+in-None w ↦
+        (next, gathered_none (here z (crossed (numbers z) w.dot_product-ua.ensures w.dot_product-ub.ensures w.if-are_overlapping_in_lon.true w.if-ua-ub.true w.point_in_edge.ensures) w.test_finite.ensures) g (w.in-Crossing.is ∙ ap tested.Crossing w.in-None.is) w.points-is w.len-is)
+      | goal.then-are_overlapping_in_lon+else-ua-ub w ↦
+        (next, gathered_none (no_crossing z (one_side (numbers z) w.dot_product-ua.ensures w.dot_product-ub.ensures w.if-are_overlapping_in_lon.true w.if-ua-ub.false)) g refl w.points-is w.len-is)
+      | goal.else-are_overlapping_in_lon w ↦ (next, gathered_none (no_crossing z (apart (numbers z) w.if-are_overlapping_in_lon.false)) g refl w.points-is w.len-is)
+    ]
 
 pub returns : goal.returns
 returns c =
-    let x = (goal.at.returns c).After-last-1 in
+    let x = (goal.at.returns c).After-to_vect3-b_vect in
     let l = c.loop-i in
     gathered_done l.invariant.1 _ (whole x) (none_left l.invariant.0 c.loop-i-test.false)

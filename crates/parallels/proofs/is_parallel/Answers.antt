@@ -6,8 +6,7 @@ use Rattle.float.specs.Doubles.{inclusive, one, half_pi}
 use Rattle.float.proofs.Finite.{between_finite}
 use Rattle.parallels.specs.Parallels.{is_parallel}
 use borrow.Author.Rules.{rules}
-use Rattle.parallels.proofs.is_parallel.Statement.{statement}
-use Rattle.parallels.proofs.is_parallel.Tie as tie
+use Rattle.parallels.proofs.is_parallel.Goals as goal
 
 -- three tests that hold only with three others add nothing to them
 absorb : (f1 f2 f3 w1 w2 w3 : Bool) → (w1 ≡ true → f1 ≡ true) → (w2 ≡ true → f2 ≡ true) → (w3 ≡ true → f3 ≡ true) → ((f1 && f2 && f3) && w1 && w2 && w3) ≡ (w1 && w2 && w3)
@@ -20,19 +19,7 @@ finite_too : (lat sin cos : Float) → is_parallel lat sin cos ≡ (inclusive (n
 unfolding is_parallel of_bits neg
 finite_too lat sin cos = absorb _ _ _ _ _ _ (between_finite _ _ _ _ _ _ lat) (between_finite _ _ _ _ _ _ sin) (between_finite _ _ _ _ _ _ cos)
 
-within-requires : tie.Need-within-requires
-within-requires c κs = search rules
-
-within-requires-2 : tie.Need-within-requires-2
-within-requires-2 c κs = search rules
-
-within-requires-3 : tie.Need-within-requires-3
-within-requires-3 c κs = search rules
-
-returns : tie.Need-returns
+pub returns : goal.returns
 returns c =
-    let a = c.before.before.before.args in
-    simp (c.before.before.within.ensures, c.before.within2.ensures, c.within3.ensures) (sym (finite_too a.lat a.sin a.cos))
-
-pub is-parallel-spec : {M : Type 1} → statement M
-is-parallel-spec = tie.close (tie.spec within-requires within-requires-2 within-requires-3 returns)
+    let a = c.args in
+    simp (c.within.ensures, c.within-2.ensures, c.within-3.ensures) (sym (finite_too a.lat a.sin a.cos))

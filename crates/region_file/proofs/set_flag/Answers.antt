@@ -14,8 +14,7 @@ use Rattle.region_file.specs.File.{flag_bytes, trailer_of, trailer_answer, with_
 use Rattle.region_file.proofs.Numbers.{length_bytes, flag_number}
 use Rattle.region_file.proofs.Trailers.{accepted}
 use borrow.Author.Rules.{rules}
-use Rattle.region_file.proofs.set_flag.Statement.{statement}
-use Rattle.region_file.proofs.set_flag.Tie as tie
+use Rattle.region_file.proofs.set_flag.Goals as goal
 
 -- a trailer that is taken
 module _ (s : List ℕ) (t : Trailer) (told : answered t ≡ trailer_of s) where
@@ -43,53 +42,20 @@ module _ (s : List ℕ) (k : ℕ) (vs : List ℕ) (told : refused k vs ≡ trail
   unfolding with_flag_field
   field_left flag = rw (sym told)
 
-read-trailer-requires : tie.Need-read-trailer-requires
-read-trailer-requires c κs = search rules
+pub overflow_sub-len : goal.overflow_sub-len
+overflow_sub-len c =
+    let h = long _ _ (ap trailer_answer (sym c.in-Trailer.is) ∙ c.read_trailer.ensures) in omega (arith, h)
 
-enum-known-cause : tie.Need-enum-known-cause
-enum-known-cause c = search rules
+pub put_number-requires : goal.put_number-requires
+put_number-requires c =
+    let h = long _ _ (ap trailer_answer (sym c.in-Trailer.is) ∙ c.read_trailer.ensures) in omega (arith, h)
 
-enum_told : tie.Need-enum-told
-enum_told c = search rules
+pub returns-in-Refused : goal.returns-in-Refused
+returns-in-Refused c =
+    let told = ap trailer_answer (sym c.in-Refused.is) ∙ c.read_trailer.ensures in
+    record { answer = set_refused _ _ _ told; file_after = field_left _ _ _ told _ }
 
-sub-put-number : tie.Need-overflow-sub-put-number
-sub-put-number c =
-    let h = long _ _ (ap trailer_answer (sym c.before.enum_told.given.1) ∙ c.before.before.before.read-trailer.ensures) in omega (arith, h)
-
-cast-put-number : tie.Need-overflow-cast-put-number
-cast-put-number c = search rules
-
-put-number-requires : tie.Need-put-number-requires
-put-number-requires c κs =
-    let h = long _ _ (ap trailer_answer (sym c.before.enum_told.given.1) ∙ c.before.before.before.read-trailer.ensures) in omega (arith, h)
-
-same_length : tie.Need-same-length
-same_length c = search rules
-
-returns : tie.Need-returns
-returns c =
-    let told = ap trailer_answer (sym c.before.cause.given.1) ∙ c.before.before.before.read-trailer.ensures in
-    (set_refused _ _ _ told, field_left _ _ _ told _)
-
-same-length-2 : tie.Need-same-length-2
-same-length-2 c = search rules
-
-returns-2 : tie.Need-returns-2
-returns-2 c =
-    let told = ap trailer_answer (sym c.before.before.before.before.enum_told.given.1) ∙ c.before.before.before.before.before.before.read-trailer.ensures in
-    (set_done _ _ told, c.before.before.put-number.ensures ∙ field_set _ _ told _)
-
-pub set-flag-spec : {M : Type 1} → statement M
-set-flag-spec =
-    tie.close
-    (tie.spec
-    read-trailer-requires
-    enum-known-cause
-    enum_told
-    sub-put-number
-    cast-put-number
-    put-number-requires
-    same_length
-    returns
-    same-length-2
-    returns-2)
+pub returns-in-Trailer : goal.returns-in-Trailer
+returns-in-Trailer c =
+    let told = ap trailer_answer (sym c.in-Trailer.is) ∙ c.read_trailer.ensures in
+    record { answer = set_done _ _ told; file_after = c.put_number.ensures ∙ field_set _ _ told _ }

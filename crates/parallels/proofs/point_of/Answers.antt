@@ -1,0 +1,22 @@
+-- `parallels::point_of` meets its contract. Assumes nothing.
+use lib.Ieee.{ne}
+use Rattle.parallels.proofs.Ends.{in_order}
+use Rattle.parallels.specs.Parallels.{point_of}
+use borrow.Author.Rules.{rules}
+use Rattle.parallels.proofs.point_of.Goals as goal
+
+pub returns-then-n : goal.returns-then-n
+unfolding point_of ne
+returns-then-n c =
+    let a = c.args in
+    simp (c.case_a.ensures, in_order a.from a.to a.n a.lat_sin a.lat_cos, c.if-n.true)
+
+pub returns-else-n : goal.returns-else-n
+unfolding point_of ne
+returns-else-n c =
+    simp (
+      c.case_b.ensures,
+      c.north_of-pb.ensures,
+      c.south_of-pa.ensures,
+      c.if-n.false,
+    )
