@@ -3,7 +3,8 @@
  * of stack that it took.
  *
  * In the program's module a length has 64 bits: it calls `i64 read(i32, ptr, i64)`. A C library of this core has `int read(int, void *,
- * size_t)`, whose answer leaves the upper half of the 64 bits to chance. So its calls are renamed to the two below.
+ * size_t)`, whose answer leaves the upper half of the 64 bits to chance. So its calls are renamed to the two below. What else it asks of a C
+ * library is in libc.c.
  */
 #include "harness.h"
 

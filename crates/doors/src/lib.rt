@@ -1,4 +1,4 @@
-// The functions that C calls, over a region file's bytes: docs/CALLS.md and c/jigwandor.h. A slice is a pointer, then a length.
+// Two calls over a region file's bytes: docs/CALLS.md. C calls them by way of doors_c.
 #![tactic(auto)]
 
 ghost use Rattle.std.specs.Prelude.{◌≡◌, ◌+◌};
@@ -35,8 +35,7 @@ fn decision_code(decision: Decision) -> u32
 }
 
 // 1 where the file's region contains the point, 0 where it does not, or 16 plus the refusal's number.
-#[unsafe(no_mangle)]
-pub extern "C" fn jigwandor_contains(file: &[u8], x: f64, y: f64, z: f64, lon: f64, lat: f64) -> u32
+pub fn jigwandor_contains(file: &[u8], x: f64, y: f64, z: f64, lon: f64, lat: f64) -> u32
     ensures { result ≡ contains_code file.now (record { x = x; y = y; z = z; lon = lon; lat = lat }) }
 {
     let read = region_file::read(file);
@@ -49,8 +48,7 @@ pub extern "C" fn jigwandor_contains(file: &[u8], x: f64, y: f64, z: f64, lon: f
 }
 
 // Sets the file's flag field so that its region contains the point: 0, or 16 plus the refusal's number, and then every byte is left.
-#[unsafe(no_mangle)]
-pub extern "C" fn jigwandor_hold(file: &mut [u8], x: f64, y: f64, z: f64, lon: f64, lat: f64) -> u32
+pub fn jigwandor_hold(file: &mut [u8], x: f64, y: f64, z: f64, lon: f64, lat: f64) -> u32
     ensures answer { result ≡ hold_code file.old (record { x = x; y = y; z = z; lon = lon; lat = lat }) }
     ensures file_after { file.new ≡ held_file file.old (record { x = x; y = y; z = z; lon = lon; lat = lat }) }
 {
