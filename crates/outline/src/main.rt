@@ -2,24 +2,22 @@
 #![tactic(auto)]
 
 use coo3d::Coo3D;
-use libc::STDOUT_FILENO;
 use refusal::Outcome;
 use region::{ContainsSouthPoleMethod, Region};
 use region_file::WriteAnswer;
+use std::io;
 
 // A refusal writes nothing.
-fn write_file(r: Region) {
+fn write_file(rt: &impl Print, r: Region) -> io::Result<()> {
     // five corners of 40 bytes and the trailer
     let mut space: [u8; 216] = [0; 216];
     match region_file::write(r, &mut space) {
-        WriteAnswer::Written(_) => {
-            io::write_all(STDOUT_FILENO, &space);
-        }
-        WriteAnswer::Refused(_) => {}
+        WriteAnswer::Written(_) => rt.write_all(&space),
+        WriteAnswer::Refused(_) => Ok(()),
     }
 }
 
-fn main() {
+fn main(rt: HostRuntime) -> io::Result<()> {
     // longitude 352, latitude -50 degrees
     let c0 = Coo3D {
         x: 0.6365320448552996,
@@ -70,8 +68,8 @@ fn main() {
     match outcome {
         Outcome::Done => {
             let r = built.region;
-            write_file(r);
+            write_file(&rt, r)
         }
-        Outcome::Refused(_) => {}
+        Outcome::Refused(_) => Ok(()),
     }
 }

@@ -6,6 +6,8 @@
 use answers::Kept;
 use region::Region;
 use shape_requests::{KeptZone, Zoned};
+use std::io;
+use std::io::{Stdin, Stdout};
 use stream::{Buffer, Stream};
 
 const BUILD: u64 = 1;
@@ -78,10 +80,10 @@ struct State {
     stream: Stream,
 }
 
-fn new() -> State {
+fn new(from: Stdin, to: Stdout) -> State {
     let region = region::empty();
     let zone = shape_requests::no_zone();
-    let stream = stream::new();
+    let stream = stream::new(from, to);
     State {
         region,
         zone,
@@ -182,23 +184,23 @@ fn step(s: State, input: &mut Buffer, out: &mut Buffer) -> State {
     }
 }
 
-// A proved loop has to end, and nothing says that the input does: the turns are counted down from a number that no run uses up.
-fn answer_all(input: &mut Buffer, out: &mut Buffer) {
-    let mut state = new();
-    let mut turns = u64::MAX;
-    while turns > 0 {
+// A proved loop has to end, and nothing says that the input does: no run uses up the turns.
+fn answer_all(from: Stdin, to: Stdout, input: &mut Buffer, out: &mut Buffer) {
+    let mut state = new(from, to);
+    for _ in 0..u64::MAX {
         state = step(state, input, out);
         let s = state.stream;
         if s.ended {
             stream::flush(s, out);
             return;
         }
-        turns -= 1;
     }
 }
 
-fn main() {
-    let mut input = io::large_buffer();
-    let mut out = io::large_buffer();
-    answer_all(&mut input, &mut out);
+fn main(rt: HostRuntime) -> io::Result<()> {
+    let mut input = stream::empty_buffer();
+    let mut out = stream::empty_buffer();
+    answer_all(rt.stdin(), rt.stdout(), &mut input, &mut out);
+    stream::outcome(&input)?;
+    stream::outcome(&out)
 }

@@ -5,6 +5,7 @@
 
 use coo3d::Coo3D;
 use region::{ContainsSouthPoleMethod, Region};
+use std::io;
 
 fn at(x: f64, y: f64, z: f64, lon: f64, lat: f64) -> Coo3D {
     Coo3D { x, y, z, lon, lat }
@@ -164,51 +165,61 @@ fn north_pole(lon: f64) -> Coo3D {
 }
 
 // Prints a place, and whether it is filmed.
-fn ask(place: &[u8], r: Region, p: Coo3D) {
-    tell::say(place);
-    tell::decision(region::contains(r, p));
+fn ask(rt: &impl Print, place: &[u8], r: Region, p: Coo3D) -> io::Result<()> {
+    tell::say(rt, place)?;
+    tell::decision(rt, region::contains(r, p))?;
+    Ok(())
 }
 
-fn poles(r: Region) {
-    tell::say(b"  seam count");
-    tell::count(region::seam_count(r));
-    ask(b"  south pole", r, south_pole(0.0));
-    ask(b"  north pole", r, north_pole(0.0));
+fn poles(rt: &impl Print, r: Region) -> io::Result<()> {
+    tell::say(rt, b"  seam count")?;
+    tell::count(rt, region::seam_count(r))?;
+    ask(rt, b"  south pole", r, south_pole(0.0))?;
+    ask(rt, b"  north pole", r, north_pole(0.0))?;
+    Ok(())
 }
 
-fn sides(r: Region) {
-    ask(b"  80 S      ", r, near_south());
-    ask(b"  30 S      ", r, far_south());
+fn sides(rt: &impl Print, r: Region) -> io::Result<()> {
+    ask(rt, b"  80 S      ", r, near_south())?;
+    ask(rt, b"  30 S      ", r, far_south())?;
+    Ok(())
 }
 
 // Builds a region and prints its corner count and flag.
 fn by_rule(
+    rt: &impl Print,
     name: &[u8],
     corners: [Coo3D; 64],
     count: usize,
     rule: ContainsSouthPoleMethod,
-) -> Region {
-    tell::call(name);
+) -> io::Result<Region> {
+    tell::call(rt, name)?;
     let built = region::build(corners, count, rule);
-    tell::built(built);
-    built.region
+    tell::built(rt, built)?;
+    Ok(built.region)
 }
 
-fn by_default(name: &[u8], corners: [Coo3D; 64], count: usize) -> Region {
-    by_rule(name, corners, count, ContainsSouthPoleMethod::Default)
+fn by_default(
+    rt: &impl Print,
+    name: &[u8],
+    corners: [Coo3D; 64],
+    count: usize,
+) -> io::Result<Region> {
+    by_rule(rt, name, corners, count, ContainsSouthPoleMethod::Default)
 }
 
-fn round_the_south_pole() {
-    let r = by_default(b"along 60 S", south_ring(), 12);
-    poles(r);
-    sides(r);
+fn round_the_south_pole(rt: &impl Print) -> io::Result<()> {
+    let r = by_default(rt, b"along 60 S", south_ring(), 12)?;
+    poles(rt, r)?;
+    sides(rt, r)?;
     let mut file: [u8; 496] = [0; 496];
     region_file::write(r, &mut file);
-    tell::say(b"  trailer   ");
-    tell::bytes(&file[480..496]);
+    tell::say(rt, b"  trailer   ")?;
+    tell::bytes(rt, &file[480..496])?;
+    Ok(())
 }
 
-fn round_the_north_pole() {
+fn round_the_north_pole(rt: &impl Print) -> io::Result<()> {
     // 45, 80 and 45, 30
     let near = at(
         0.12278780396897285,
@@ -224,13 +235,14 @@ fn round_the_north_pole() {
         0.7853981633974483,
         0.5235987755982989,
     );
-    let r = by_default(b"along 70 N", north_ring(), 12);
-    poles(r);
-    ask(b"  80 N      ", r, near);
-    ask(b"  30 N      ", r, far);
+    let r = by_default(rt, b"along 70 N", north_ring(), 12)?;
+    poles(rt, r)?;
+    ask(rt, b"  80 N      ", r, near)?;
+    ask(rt, b"  30 N      ", r, far)?;
+    Ok(())
 }
 
-fn round_neither_pole() {
+fn round_neither_pole(rt: &impl Print) -> io::Result<()> {
     // 3.4, -54.4 and 323.5, -54.3
     let bouvet = at(
         0.5810983335602837,
@@ -246,44 +258,52 @@ fn round_neither_pole() {
         5.6461401302016565,
         -0.9477137838329209,
     );
-    let r = by_default(b"round Bouvet Island", island_ring(), 5);
-    poles(r);
-    ask(b"  Bouvet    ", r, bouvet);
-    ask(b"  S. Georgia", r, south_georgia);
+    let r = by_default(rt, b"round Bouvet Island", island_ring(), 5)?;
+    poles(rt, r)?;
+    ask(rt, b"  Bouvet    ", r, bouvet)?;
+    ask(rt, b"  S. Georgia", r, south_georgia)?;
+    Ok(())
 }
 
-fn south_by_rule(name: &[u8], rule: ContainsSouthPoleMethod) {
-    let r = by_rule(name, south_ring(), 12, rule);
-    ask(b"  south pole", r, south_pole(0.0));
-    sides(r);
+fn south_by_rule(rt: &impl Print, name: &[u8], rule: ContainsSouthPoleMethod) -> io::Result<()> {
+    let r = by_rule(rt, name, south_ring(), 12, rule)?;
+    ask(rt, b"  south pole", r, south_pole(0.0))?;
+    sides(rt, r)?;
+    Ok(())
 }
 
-fn rules() {
+fn rules(rt: &impl Print) -> io::Result<()> {
     let p = near_south();
-    south_by_rule(b"Default", ContainsSouthPoleMethod::Default);
+    south_by_rule(rt, b"Default", ContainsSouthPoleMethod::Default)?;
     south_by_rule(
+        rt,
         b"DefaultComplement",
         ContainsSouthPoleMethod::DefaultComplement,
-    );
+    )?;
     south_by_rule(
+        rt,
         b"ContainsSouthPole",
         ContainsSouthPoleMethod::ContainsSouthPole,
-    );
+    )?;
     south_by_rule(
+        rt,
         b"DoNotContainsSouthPole",
         ContainsSouthPoleMethod::DoNotContainsSouthPole,
-    );
+    )?;
     south_by_rule(
+        rt,
         b"ControlPointIn, 80 S",
         ContainsSouthPoleMethod::ControlPointIn(p),
-    );
+    )?;
     south_by_rule(
+        rt,
         b"ControlPointOut, 80 S",
         ContainsSouthPoleMethod::ControlPointOut(p),
-    );
+    )?;
+    Ok(())
 }
 
-fn corner_over_the_pole() {
+fn corner_over_the_pole(rt: &impl Print) -> io::Result<()> {
     // 180, -70 and 180, -65
     let corner = at(
         -0.3420201433256687,
@@ -299,21 +319,22 @@ fn corner_over_the_pole() {
         3.141592653589793,
         -1.1344640137963142,
     );
-    let r = by_default(b"along 60 S", south_ring(), 12);
-    ask(b"  65 S      ", r, p);
-    tell::call(b"corner 0 put beyond the pole");
+    let r = by_default(rt, b"along 60 S", south_ring(), 12)?;
+    ask(rt, b"  65 S      ", r, p)?;
+    tell::call(rt, b"corner 0 put beyond the pole")?;
     let edited = edits::put(r, 0, corner);
-    tell::edited(edited);
+    tell::edited(rt, edited)?;
     let moved = edited.region;
-    poles(moved);
-    sides(moved);
-    ask(b"  65 S      ", moved, p);
-    tell::call(b"65 S held");
+    poles(rt, moved)?;
+    sides(rt, moved)?;
+    ask(rt, b"  65 S      ", moved, p)?;
+    tell::call(rt, b"65 S held")?;
     let held = edits::hold(moved, p);
-    tell::edited(held);
+    tell::edited(rt, held)?;
     let set_right = held.region;
-    sides(set_right);
-    ask(b"  65 S      ", set_right, p);
+    sides(rt, set_right)?;
+    ask(rt, b"  65 S      ", set_right, p)?;
+    Ok(())
 }
 
 // 255, -80
@@ -328,7 +349,7 @@ fn west() -> Coo3D {
 }
 
 // Both sides of the pole: 80 S in the half that is meant, and two places and the north pole in the other.
-fn halves(r: Region) {
+fn halves(rt: &impl Print, r: Region) -> io::Result<()> {
     // 90, -80; 90, -30
     let east = at(
         0.0,
@@ -344,25 +365,28 @@ fn halves(r: Region) {
         1.5707963267948966,
         -0.5235987755982989,
     );
-    tell::say(b"  seam count");
-    tell::count(region::seam_count(r));
-    ask(b"  south pole", r, south_pole(0.0));
-    ask(b"  80 S 105 W", r, west());
-    ask(b"  80 S  90 E", r, east);
-    ask(b"  30 S  90 E", r, far_east);
+    tell::say(rt, b"  seam count")?;
+    tell::count(rt, region::seam_count(r))?;
+    ask(rt, b"  south pole", r, south_pole(0.0))?;
+    ask(rt, b"  80 S 105 W", r, west())?;
+    ask(rt, b"  80 S  90 E", r, east)?;
+    ask(rt, b"  30 S  90 E", r, far_east)?;
     ask(
+        rt,
         b"  north pole, asked at 105 W",
         r,
         north_pole(4.4505895925855405),
-    );
+    )?;
     ask(
+        rt,
         b"  north pole, asked at  90 E",
         r,
         north_pole(1.5707963267948966),
-    );
+    )?;
+    Ok(())
 }
 
-fn edge_over_the_pole() {
+fn edge_over_the_pole(rt: &impl Print) -> io::Result<()> {
     // 90, -89 and 270, -89
     let beyond = at(
         0.0,
@@ -378,28 +402,36 @@ fn edge_over_the_pole() {
         4.71238898038469,
         -1.5533430342749532,
     );
-    let r = by_default(b"the western half", western_half(), 7);
-    halves(r);
-    halves(by_default(b"the same corners back", western_half_back(), 7));
-    tell::call(b"the western half with the pole: a corner put in at 89 S 90 E");
+    let r = by_default(rt, b"the western half", western_half(), 7)?;
+    halves(rt, r)?;
+    let back = by_default(rt, b"the same corners back", western_half_back(), 7)?;
+    halves(rt, back)?;
+    tell::call(
+        rt,
+        b"the western half with the pole: a corner put in at 89 S 90 E",
+    )?;
     let with_pole = edits::insert(r, 0, beyond);
-    tell::edited(with_pole);
-    halves(with_pole.region);
-    tell::call(b"the western half without the pole: a corner put in at 89 S 90 W");
+    tell::edited(rt, with_pole)?;
+    halves(rt, with_pole.region)?;
+    tell::call(
+        rt,
+        b"the western half without the pole: a corner put in at 89 S 90 W",
+    )?;
     let without = edits::insert(r, 0, before);
-    tell::edited(without);
-    halves(without.region);
-    tell::call(b"80 S 105 W held");
+    tell::edited(rt, without)?;
+    halves(rt, without.region)?;
+    tell::call(rt, b"80 S 105 W held")?;
     let held = edits::hold(without.region, west());
-    tell::edited(held);
-    halves(held.region);
+    tell::edited(rt, held)?;
+    halves(rt, held.region)?;
+    Ok(())
 }
 
-fn main() {
-    round_the_south_pole();
-    round_the_north_pole();
-    round_neither_pole();
-    rules();
-    corner_over_the_pole();
-    edge_over_the_pole();
+fn main(rt: HostRuntime) -> io::Result<()> {
+    round_the_south_pole(&rt)?;
+    round_the_north_pole(&rt)?;
+    round_neither_pole(&rt)?;
+    rules(&rt)?;
+    corner_over_the_pole(&rt)?;
+    edge_over_the_pole(&rt)
 }

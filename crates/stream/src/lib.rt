@@ -4,19 +4,27 @@
 ghost use Rattle.std.specs.Prelude.{◌+◌, ◌≤◌, ◌<◌, length};
 
 use coo3d::{Coo3D, Vect3};
-use libc::{STDIN_FILENO, STDOUT_FILENO};
+use std::io;
+use std::io::{Read, Stdin, Stdout};
 
-// Its length is a multiple of 8, so that no word of the stream lies in two of them.
-pub type Buffer = [u8; 65536];
+// The length is a multiple of 8, so that no word of the stream lies in two buffers.
+#[derive(Drop)]
+pub struct Buffer {
+    bytes: [u8; 65536],
+    // The error of the read or write that failed, if one did.
+    error: Option<io::Error>,
+}
 
 #[derive(Clone, Copy)]
 pub struct Stream {
+    from: Stdin,
+    to: Stdout,
     // The input's bytes from `at` up to `end` are still to be read.
     at: usize,
     end: usize,
     // The output's first `len` bytes are still to be written.
     len: usize,
-    // The input ended inside a request, or the request is wrong: nothing more is read, each word that is asked for is 0, and nothing is answered.
+    // The input ended inside a request, the request is wrong, or a read or write failed: nothing more is read, each word that is asked for is 0, and nothing is answered.
     pub ended: bool,
 }
 
@@ -87,8 +95,17 @@ pub struct Vectors {
     pub stream: Stream,
 }
 
-pub fn new() -> Stream {
+pub fn empty_buffer() -> Buffer {
+    Buffer {
+        bytes: [0; 65536],
+        error: None,
+    }
+}
+
+pub fn new(from: Stdin, to: Stdout) -> Stream {
     Stream {
+        from,
+        to,
         at: 0,
         end: 0,
         len: 0,
@@ -97,12 +114,11 @@ pub fn new() -> Stream {
 }
 
 pub fn end(s: Stream) -> Stream {
-    Stream {
-        at: 0,
-        end: 0,
-        len: s.len,
-        ended: true,
-    }
+    let mut t = s;
+    t.at = 0;
+    t.end = 0;
+    t.ended = true;
+    t
 }
 
 pub fn end_if(s: Stream, wrong: bool) -> Stream {
@@ -138,7 +154,7 @@ fn word_from(s: &[u8], at: usize) -> u64
     low + 0x1_0000_0000 * high
 }
 
-fn put_word_at(s: &mut Buffer, at: usize, w: u64)
+fn put_word_at(s: &mut [u8; 65536], at: usize, w: u64)
     requires { at + 8 ≤ 65536 }
 {
     s[at] = (w % 256) as u8;
@@ -151,16 +167,36 @@ fn put_word_at(s: &mut Buffer, at: usize, w: u64)
     s[at + 7] = (w / 0x100_0000_0000_0000 % 256) as u8;
 }
 
+// Reads until the bytes are full or the input ends, and answers how many it read.
+fn read_full(from: Stdin, bytes: &mut [u8; 65536]) -> io::Result<usize> {
+    let mut input = from;
+    let mut done: usize = 0;
+    while done < 65536 {
+        let n = input.read(&mut bytes[done..])?;
+        if n == 0 {
+            return Ok(done);
+        }
+        done += n;
+    }
+    Ok(done)
+}
+
 // The buffer is filled anew when nothing of it is left.
 fn refill(s: Stream, input: &mut Buffer) -> Stream {
     if s.ended {
         return s;
     }
-    Stream {
-        at: 0,
-        end: io::read_full(STDIN_FILENO, input),
-        len: s.len,
-        ended: false,
+    match read_full(s.from, &mut input.bytes) {
+        Ok(end) => {
+            let mut t = s;
+            t.at = 0;
+            t.end = end;
+            t
+        }
+        Err(e) => {
+            input.error = Some(e);
+            end(s)
+        }
     }
 }
 
@@ -171,7 +207,7 @@ fn take(s: Stream, input: &Buffer) -> Word {
             let mut stream = s;
             stream.at = at + 8;
             return Word {
-                value: word_from(input, at),
+                value: word_from(&input.bytes, at),
                 stream,
             };
         }
@@ -331,24 +367,38 @@ pub fn get_points(s: Stream, input: &mut Buffer, n: usize) -> Points {
     Points { values, stream }
 }
 
-fn write_first(out: &[u8], len: usize) {
+fn write_first(to: Stdout, out: &[u8], len: usize) -> io::Result<()> {
     if len <= out.len() {
-        io::write_all(STDOUT_FILENO, &out[0..len]);
+        return to.write_all(&out[0..len]);
     }
+    Ok(())
 }
 
 // Writes what is still to be written.
 pub fn flush(s: Stream, out: &mut Buffer) -> Stream {
-    write_first(out, s.len);
     let mut t = s;
     t.len = 0;
-    t
+    match write_first(s.to, &out.bytes, s.len) {
+        Ok(()) => t,
+        Err(e) => {
+            out.error = Some(e);
+            end(t)
+        }
+    }
+}
+
+// The error of the read or write of this buffer that failed, if one did.
+pub fn outcome(buffer: &Buffer) -> io::Result<()> {
+    match buffer.error {
+        Some(e) => Err(e),
+        None => Ok(()),
+    }
 }
 
 fn put_in_room(s: Stream, out: &mut Buffer, w: u64) -> Stream {
     let len = s.len;
     if len <= 65528 {
-        put_word_at(out, len, w);
+        put_word_at(&mut out.bytes, len, w);
         let mut t = s;
         t.len = len + 8;
         return t;
@@ -364,6 +414,9 @@ pub fn put(s: Stream, out: &mut Buffer, w: u64) -> Stream {
         return put_in_room(s, out, w);
     }
     let t = flush(s, out);
+    if t.ended {
+        return t;
+    }
     put_in_room(t, out, w)
 }
 
