@@ -15,7 +15,7 @@ use Rattle.crossings.specs.declared.Crossing.{Crossing}
 use Rattle.crossings.specs.declared.Crossing.TheVariants.{None, At}
 use Rattle.crossings.specs.declared.Crossings.{Crossings}
 use Rattle.crossings.specs.declared.AllAnswer.{AllAnswer}
-use Rattle.crossings.specs.Crossings.{listed, crossings_of, tested_of, all_finite, all_of, zero3, zeros, list_of, shown, Lists}
+use Rattle.crossings.specs.Crossings.{listed, crossings_of, tested_of, all_finite, all_of, zero3, zeros, list_of, Lists}
 
 -- the crossing is stored, or nothing is, and the rest goes on
 abbrev pub placed : Crossing → List UnitVect3 → ℕ → (List UnitVect3 → ℕ → Answer Crossings) → Answer Crossings

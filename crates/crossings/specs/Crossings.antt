@@ -1,5 +1,5 @@
 -- Answers of the queries: document 01, 'Queries'. An edge gives a crossing or none; a first answer is the first, an all-answer the list.
-use Rattle.std.specs.Prelude.{ℕ, ◌-◌, ◌≡◌, Bool, true, false, not, ◌&&◌, List, [], ◌∷◌, ◌++◌, length, replicate}
+use Rattle.std.specs.Prelude.{◌-◌, ◌≡◌, Bool, true, false, not, ◌&&◌, List, [], ◌∷◌, ◌++◌, length, replicate}
 use Rattle.coo3d.specs.declared.UnitVect3.{UnitVect3}
 use Rattle.coo3d.specs.Vectors.{is_finite_unit}
 use Rattle.float.specs.Doubles.{nought}

@@ -2,7 +2,7 @@
 use Rattle.std.specs.Prelude.{ℕ, suc, ◌≡◌, not, List, [], ◌∷◌, eqb, ltb, take}
 use Rattle.coo3d.specs.declared.Coo3D.{Coo3D}
 use Rattle.coo3d.specs.declared.Vect3.{Vect3}
-use Rattle.refusal.specs.Answer.{Answer, answered, refused, refused_for, refuse_if, and_then, outcome_of}
+use Rattle.refusal.specs.Answer.{Answer, answered, refused_for, refuse_if, and_then, outcome_of}
 use Rattle.refusal.specs.declared.Cause.{Cause}
 use Rattle.refusal.specs.declared.Outcome.TheVariants.{Refused}
 use Rattle.domain.specs.declared.PointCheck.{PointCheck}

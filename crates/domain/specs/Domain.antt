@@ -1,5 +1,5 @@
 -- The domain of points and vectors, as document 01's section 'Point and edge' has it. -0 is in it wherever +0 is.
-use Rattle.std.specs.Prelude.{Bool, ◌&&◌, Float}
+use Rattle.std.specs.Prelude.{Bool, ◌&&◌}
 use Rattle.std.specs.Float.Ieee.{neg}
 use Rattle.float.specs.Doubles.{is_finite, inclusive, nought, two, half_pi, two_pi}
 use Rattle.coo3d.specs.declared.Coo3D.{Coo3D}

@@ -2,7 +2,7 @@
 use mathlib.Core.Path.{◌≡◌, refl, sym, ◌∙◌}
 use mathlib.Core.Bool.{true, false, not, true≢false}
 use lib.Dec.{T}
-use lib.Ieee.{Float, nan, inf, fin, binary64, is_nan, of_bits, ne, div}
+use lib.Ieee.{Float, nan, inf, fin, is_nan, of_bits, ne, div}
 use lib.Ieee.Compare.{nan_differs}
 use Rattle.float.specs.Doubles.{nought, ◌⊘◌}
 

@@ -1,5 +1,5 @@
 -- Doubles: every operation is IEEE 754's on binary64, rounded once. A circle round a sign says that the result is rounded.
-use Rattle.std.specs.Prelude.{Bool, true, false, ◌&&◌, cond, ℤ, Float}
+use Rattle.std.specs.Prelude.{Bool, true, false, ◌&&◌, cond, Float}
 use Rattle.std.specs.Float.{nan, inf, fin, binary64}
 use Rattle.std.specs.Float.Ieee.{add, sub, mul, div, lt, le, of_bits}
 

@@ -1,5 +1,5 @@
 -- What `sqrt` asks of the bit patterns: which are no NaN's, and how far a subnormal's digits are shifted up. Assumes nothing.
-use Rattle.std.proofs.Common.{◌≡◌, ℕ, zero, suc, ◌+◌, ◌-◌, ◌*◌, ◌/◌, ◌%◌, ◌^◌, ◌<◌, ◌≤◌, Bool, true, not, T, ltb, sym, refl, ap, ◌∙◌, subst, mul-le-mul_right, mul_assoc, arith, ltb→lt, pow-add, shl_lt}
+use Rattle.std.proofs.Common.{◌≡◌, ℕ, suc, ◌+◌, ◌-◌, ◌*◌, ◌%◌, ◌^◌, ◌<◌, ◌≤◌, Bool, true, not, T, ltb, sym, refl, ap, ◌∙◌, subst, mul-le-mul_right, mul_assoc, arith, ltb→lt, pow-add, shl_lt}
 use lib.Dec.{not_T}
 use lib.Count.{count_leading_zeros, leading_top}
 use lib.Ieee.{Float, nan, binary64, nan_bits, ne}

@@ -3,13 +3,13 @@ use Rattle.std.proofs.Common.{◌≡◌, ℕ, zero, suc, ◌+◌, ◌-◌, ◌*�
 use native.Mathlib.Nat.{mul-mul-mul_comm, eq_of_mul-eq-mul_right, pow-succ'}
 use lib.Count.{count_leading_zeros}
 use lib.Ieee.{Float, nan, inf, fin, binary64, fits, odd, of_fields, of_bits, to_bits, size, up, down}
-use lib.Ieee.Bits.{of_bits-to_bits, to_bits-lt, is_true}
+use lib.Ieee.Bits.{of_bits-to_bits, is_true}
 use lib.Ieee.Positive.{positive}
 use lib.Ieee.Fits.{down_pos}
 use lib.Ieee.Exact.{HasValue}
 use lib.Ieee.Nearest.{div_same}
 use Rattle.root.specs.Root.{sqrt_of}
-use Rattle.root.specs.Rounded.{RootOf, Rounded, SqrtRounded, OneRounded}
+use Rattle.root.specs.Rounded.{Rounded, SqrtRounded, OneRounded}
 use Rattle.root.proofs.Bits.{shifted}
 use Rattle.root.proofs.Grow.{four_pow, squares_mono}
 use Rattle.root.proofs.Units.{of_bits_is, clear, of_normal, of_subnormal, normal_value, subnormal_value, normal_units, units_rounded, rescale}

@@ -1,7 +1,7 @@
 -- Floats of binary64 by their bit patterns, and the root of a number of units. Assumes nothing.
-use Rattle.std.proofs.Common.{◌≡◌, ℕ, zero, suc, ◌+◌, ◌-◌, ◌*◌, ◌/◌, ◌%◌, ◌^◌, ◌<◌, ◌≤◌, Bool, true, false, cond, not, T, eqb, leb, ◌⊎◌, ℤ, sym, refl, ap, ◌∙◌, subst, inl, inr, true≢false, le_trans, lt_of_lt_of_le, le_of_lt, lt_irrefl, mul-le-mul_right, mod-eq_of_lt, mul_assoc, mul_comm, le_antisymm, lt_of_mul-lt-mul_right, mul-lt-mul_of_pos_right, mul-pos, one-mul, lt_of_not-le, zero-mul, mul-one, mul_right_comm, not-le_of_lt, le_of_mul-le-mul_right, mul-div_cancel, mul_left_comm, add-one, arith, le→leb, eqb→eq, leb→le, pow_pos, pow_mono, pow-add}
+use Rattle.std.proofs.Common.{◌≡◌, ℕ, zero, suc, ◌+◌, ◌-◌, ◌*◌, ◌/◌, ◌%◌, ◌^◌, ◌<◌, ◌≤◌, Bool, true, false, cond, T, eqb, leb, ◌⊎◌, ℤ, sym, refl, ap, ◌∙◌, subst, inl, inr, true≢false, le_trans, lt_of_lt_of_le, le_of_lt, lt_irrefl, mul-le-mul_right, mod-eq_of_lt, mul_assoc, mul_comm, le_antisymm, lt_of_mul-lt-mul_right, mul-lt-mul_of_pos_right, mul-pos, one-mul, lt_of_not-le, zero-mul, mul-one, mul_right_comm, not-le_of_lt, le_of_mul-le-mul_right, mul-div_cancel, mul_left_comm, arith, le→leb, eqb→eq, leb→le, pow_pos, pow_mono, pow-add}
 use mathlib.Core.Bool.{false≢true}
-use native.Mathlib.Nat.{mul-mul-mul_comm, eq_of_mul-eq-mul_right, div-eq_of_eq-mul_right, pow-succ'}
+use native.Mathlib.Nat.{mul-mul-mul_comm, eq_of_mul-eq-mul_right, div-eq_of_eq-mul_right}
 use lib.Dec.{not_T}
 use lib.Ieee.{Float, nan, inf, fin, binary64, up, down, minus, size, odd, of_fields, of_bits}
 use lib.Ieee.Bits.{is_true, is_false, cond_no}
@@ -10,7 +10,7 @@ use lib.Ieee.Fits.{down_pos}
 use lib.Ieee.Exact.{HasValue, odd_sign}
 use Rattle.root.specs.Whole.{near_root}
 use Rattle.root.specs.Root.{root_units, sqrt_of}
-use Rattle.root.specs.Rounded.{RootOf, Rounded}
+use Rattle.root.specs.Rounded.{Rounded}
 use Rattle.root.proofs.Grow.{pow_next, four_pow}
 use Rattle.root.proofs.Laws.{near_range, near_root_lem}
 

@@ -14,7 +14,6 @@ use Rattle.domain.proofs.Points.{points_count}
 use Rattle.refusal.specs.Answer.{answered, refused, outcome_of}
 use Rattle.refusal.specs.declared.Outcome.{Outcome}
 use Rattle.cone.specs.Cone.{bounding_cone_of, cone_at, center_of, gravity_center, d2_max_of}
-use borrow.Author.Rules.{rules}
 use Rattle.cone.proofs.bounding_cone.Goals as goal
 use Rattle.cone.proofs.bounding_cone.Goals.{After-ps-1}
 

@@ -1,6 +1,5 @@
 -- `cone::center_of` meets its contract. Assumes nothing.
 use Rattle.cone.specs.Cone.{center_of}
-use borrow.Author.Rules.{rules}
 use Rattle.cone.proofs.center_of.Goals as goal
 
 pub returns : goal.returns

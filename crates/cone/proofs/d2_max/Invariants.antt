@@ -1,17 +1,9 @@
 -- `cone::d2_max` meets its contract: the largest so far, and the points that are left. Assumes nothing.
-use Prim.Native.Nat.{ℕ, ◌+◌, ◌≤◌, ◌<◌, ◌-◌}
-use native.Mathlib.Omega.{arith}
-use mathlib.Core.Path.{◌≡◌, refl, sym, ap, ◌∙◌}
-use mathlib.Core.List.{List}
-use borrow.Author.Rules.{rules}
-use lib.ListN.{length, take, drop, get_or}
-use lib.Ieee.{Float}
-use Rattle.float.specs.Doubles.{nought, max_of}
-use Rattle.coo3d.specs.declared.Vect3.{Vect3}
-use Rattle.coo3d.specs.Vectors.{vect_of_point, squared_dist_of}
+use Prim.Native.Nat.{◌≤◌, ◌-◌}
+use mathlib.Core.Path.{◌≡◌}
+use lib.ListN.{take, drop}
+use Rattle.float.specs.Doubles.{nought}
 use Rattle.cone.specs.Cone.{d2_max_from}
-use Rattle.coo3d.specs.declared.Coo3D.{Coo3D}
-use Rattle.lists.proofs.Passing.{next_left, none_left}
 use Rattle.cone.proofs.d2_max.Given as goal
 
 abbrev pub invariant-loop-i : goal.invariant-loop-i

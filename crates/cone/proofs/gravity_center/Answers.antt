@@ -1,5 +1,5 @@
 -- `cone::gravity_center` meets its contract: the sum so far, and the points that are left. Assumes nothing.
-use Prim.Native.Nat.{ℕ, ◌+◌, ◌≤◌, ◌<◌, ◌-◌}
+use Prim.Native.Nat.{ℕ, ◌+◌, ◌≤◌, ◌<◌}
 use native.Mathlib.Omega.{arith}
 use mathlib.Core.Path.{◌≡◌, refl, sym, ◌∙◌}
 use mathlib.Core.List.{List}
@@ -9,7 +9,7 @@ use lib.Ieee.{Float}
 use Rattle.float.specs.Doubles.{◌⊕◌}
 use Rattle.coo3d.specs.declared.Coo3D.{Coo3D}
 use Rattle.lists.proofs.Passing.{next_left, none_left}
-use Rattle.cone.specs.Cone.{sum_from, gravity_center}
+use Rattle.cone.specs.Cone.{sum_from}
 use Rattle.cone.proofs.gravity_center.Goals as goal
 use Rattle.cone.proofs.gravity_center.Goals.{Start}
 

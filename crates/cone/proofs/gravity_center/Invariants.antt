@@ -1,14 +1,7 @@
 -- `cone::gravity_center` meets its contract: the sum so far, and the points that are left. Assumes nothing.
-use Prim.Native.Nat.{ℕ, ◌+◌, ◌≤◌, ◌<◌, ◌-◌}
-use native.Mathlib.Omega.{arith}
-use mathlib.Core.Path.{◌≡◌, refl, sym, ◌∙◌}
-use mathlib.Core.List.{List}
-use borrow.Author.Rules.{rules}
-use lib.ListN.{length, take, drop, get_or}
-use lib.Ieee.{Float}
-use Rattle.float.specs.Doubles.{◌⊕◌}
-use Rattle.coo3d.specs.declared.Coo3D.{Coo3D}
-use Rattle.lists.proofs.Passing.{next_left, none_left}
+use Prim.Native.Nat.{◌≤◌, ◌-◌}
+use mathlib.Core.Path.{◌≡◌}
+use lib.ListN.{take, drop}
 use Rattle.cone.specs.Cone.{sum_from, gravity_center}
 use Rattle.cone.proofs.gravity_center.Given as goal
 

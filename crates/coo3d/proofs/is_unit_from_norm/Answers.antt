@@ -6,7 +6,6 @@ use mathlib.Core.Path.{◌≡◌, refl, ap}
 use mathlib.Core.Bool.{Bool, true, false, ◌||◌, cond}
 use mathlib.Core.Logic.{⊎_elim}
 use borrow.Author.Tests.{le-ltb, ltb-false}
-use borrow.Author.Rules.{rules}
 use lib.Dec.{ltb}
 use lib.IntN.{ℤ}
 use lib.Ieee.{Float, nan, inf, fin, up, down, below, level, neg, lt, eq, le}

@@ -1,7 +1,5 @@
 -- `cost::contains_with_range_count` meets its contract. Assumes nothing.
-use Prim.Native.Nat.{◌-◌}
 use mathlib.Core.Path.{◌≡◌, sym, ap, ◌∙◌}
-use mathlib.Core.Logic.{inl, inr}
 use mathlib.Core.List.{[], ◌∷◌}
 use lib.ListN.{length}
 use borrow.Author.Rules.{rules}
@@ -13,10 +11,10 @@ use Rattle.region.specs.Region.{contains_of}
 use Rattle.region.specs.View.{view_of, contained, in_range_count}
 use Rattle.region.proofs.Containing.{asked_outside, out_of_range, in_range_there, room}
 use Rattle.region.proofs.Edges.{edge_at}
-use Rattle.region.proofs.Held.{held, held_of}
+use Rattle.region.proofs.Held.{held_of}
 use Rattle.region.proofs.Lengths.{unmap}
 use Rattle.cost.specs.RangeCount.{range_count_of}
-use Rattle.cost.proofs.Ranging.{not_ranged, ranged, Passing, passing_starts, passing_turn, passing_room, all_ranged}
+use Rattle.cost.proofs.Ranging.{not_ranged, ranged, passing_starts, passing_turn, passing_room, all_ranged}
 use Rattle.cost.proofs.contains_with_range_count.Goals as goal
 
 pub returns-then-count-eq0 : goal.returns-then-count-eq0

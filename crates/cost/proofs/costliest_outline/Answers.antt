@@ -2,7 +2,6 @@
 use mathlib.Core.Path.{subst}
 use mathlib.Core.List.{List}
 use mathlib.Core.Bool.{false}
-use borrow.Author.Rules.{rules}
 use Rattle.coo3d.specs.declared.Coo3D.{Coo3D}
 use Rattle.region.specs.Poles.{fixed_rule}
 use Rattle.region.specs.Region.{build_of, Builds}

@@ -1,7 +1,5 @@
 -- `cost::saw` meets its contract. Assumes nothing.
-use Prim.Native.Nat.{◌-◌}
-use borrow.Author.Rules.{rules}
-use Rattle.cost.proofs.Drawing.{Drawing, drawing_starts, drawing_turn, drawing_ends}
+use Rattle.cost.proofs.Drawing.{drawing_starts, drawing_turn, drawing_ends}
 use Rattle.cost.proofs.saw.Goals as goal
 
 pub loop-i-init : goal.loop-i-init

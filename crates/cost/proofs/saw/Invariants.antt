@@ -1,7 +1,6 @@
 -- `cost::saw` meets its contract. Assumes nothing.
 use Prim.Native.Nat.{◌-◌}
-use borrow.Author.Rules.{rules}
-use Rattle.cost.proofs.Drawing.{Drawing, drawing_starts, drawing_turn, drawing_ends}
+use Rattle.cost.proofs.Drawing.{Drawing}
 use Rattle.cost.proofs.saw.Given as goal
 
 abbrev pub invariant-loop-i : goal.invariant-loop-i

@@ -2,7 +2,6 @@
 use mathlib.Core.Path.{◌≡◌}
 use Rattle.crossings.specs.declared.FirstAnswer.{FirstAnswer}
 use Rattle.crossings.specs.Crossings.{first_answer, intersecting_of}
-use borrow.Author.Rules.{rules}
 use Rattle.crossings.proofs.is_intersecting.Goals as goal
 
 told : (a b : FirstAnswer) → a ≡ b → intersecting_of (first_answer b) ≡ intersecting_of (first_answer a)

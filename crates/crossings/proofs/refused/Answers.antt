@@ -3,7 +3,6 @@ use mathlib.Core.Path.{◌≡◌, refl, ap, ◌∙◌}
 use mathlib.Core.List.{List, []}
 use Rattle.coo3d.specs.declared.UnitVect3.{UnitVect3}
 use Rattle.crossings.specs.Crossings.{zeros, list_of}
-use borrow.Author.Rules.{rules}
 use Rattle.crossings.proofs.refused.Goals as goal
 
 empty : record { points = zeros; len = 0 } ≡ list_of []

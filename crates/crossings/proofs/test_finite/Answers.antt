@@ -8,7 +8,6 @@ use Rattle.refusal.specs.Answer.{answered, refused}
 use Rattle.crossings.specs.declared.Crossing.{Crossing}
 use Rattle.crossings.specs.declared.Crossing.TheVariants.{None, At}
 use Rattle.crossings.specs.Crossings.{tested_of}
-use borrow.Author.Rules.{rules}
 use Rattle.crossings.proofs.test_finite.Goals as goal
 
 at_finite : (c : Crossing) (p : UnitVect3) (b : Bool) → c ≡ At p → b ≡ is_finite_unit p → b ≡ true → answered (At p) ≡ tested_of c

@@ -1,7 +1,6 @@
 -- `domain::check_point` meets its contract. Assumes nothing.
 use mathlib.Core.Path.{sym}
 use Rattle.domain.specs.Checks.{point_at}
-use borrow.Author.Rules.{rules}
 use Rattle.domain.proofs.check_point.Goals as goal
 
 pub returns-then-in_domain : goal.returns-then-in_domain

@@ -1,19 +1,18 @@
 -- `domain::check_points` meets its contract. Assumes nothing.
-use Prim.Native.Nat.{◌≤◌, ◌-◌}
+use Prim.Native.Nat.{◌≤◌}
 use native.Mathlib.Omega.{arith}
 use mathlib.Core.Path.{◌≡◌, refl, sym, ap, ◌∙◌}
 use borrow.Author.Rules.{rules}
-use lib.ListN.{length, take, length-set}
+use lib.ListN.{length, length-set}
 use Rattle.refusal.proofs.Answers.{not_refused}
-use Rattle.domain.specs.Checks.{point_answer, points_from, points_of}
-use Rattle.domain.proofs.Points.{so_far, far_start, far_good, far_bad, far_end}
+use Rattle.domain.specs.Checks.{point_answer, points_of}
+use Rattle.domain.proofs.Points.{far_start, far_good, far_bad, far_end}
 use Rattle.domain.proofs.Counts.{count_none, count_many, count_few}
 use Rattle.domain.proofs.check_points.Goals as goal
 use Rattle.domain.proofs.check_points.Goals.{Start}
 
 -- there are as many points as are counted
 long : (c : Start) → c.args.count ≤ 64 → c.args.count ≤ length c.args.points
-
 long c h = let e : length c.args.points ≡ 64 = search rules in omega arith
 
 pub returns-then-count-eq0 : goal.returns-then-count-eq0

@@ -1,7 +1,6 @@
 -- `domain::check_vector` meets its contract. Assumes nothing.
 use mathlib.Core.Path.{sym}
 use Rattle.domain.specs.Checks.{vector_at}
-use borrow.Author.Rules.{rules}
 use Rattle.domain.proofs.check_vector.Goals as goal
 
 pub returns-then-vector_in_domain : goal.returns-then-vector_in_domain

@@ -6,7 +6,6 @@ use Rattle.coo3d.specs.declared.Coo3D.{Coo3D}
 use Rattle.float.specs.Doubles.{inclusive, nought, two, half_pi, two_pi}
 use Rattle.float.proofs.Finite.{between_finite}
 use Rattle.domain.specs.Domain.{in_domain}
-use borrow.Author.Rules.{rules}
 use Rattle.domain.proofs.in_domain.Goals as goal
 
 -- where a test holds only with another, the two are the one

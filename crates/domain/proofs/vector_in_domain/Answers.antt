@@ -1,6 +1,5 @@
 -- `domain::vector_in_domain` meets its contract. Assumes nothing.
 use Rattle.domain.specs.Domain.{vector_in_domain}
-use borrow.Author.Rules.{rules}
 use Rattle.domain.proofs.vector_in_domain.Goals as goal
 
 pub returns : goal.returns

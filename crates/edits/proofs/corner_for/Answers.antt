@@ -3,7 +3,6 @@ use mathlib.Core.Path.{sym, ap, ◌∙◌}
 use borrow.Author.Tests.{eq-eqb, ne_eqb, le-ltb, lt-ltb}
 use Rattle.domain.specs.Checks.{point_answer}
 use Rattle.domain.proofs.Points.{point_refused}
-use borrow.Author.Rules.{rules}
 use Rattle.edits.proofs.corner_for.Goals as goal
 
 pub returns-then-count-eq0 : goal.returns-then-count-eq0

@@ -3,7 +3,6 @@ use mathlib.Core.Path.{ap}
 use mathlib.Core.Bool.{true, false}
 use Rattle.refusal.specs.Answer.{decision_answer}
 use Rattle.edits.proofs.Checked.{flag_set, flag_kept}
-use borrow.Author.Rules.{rules}
 use Rattle.edits.proofs.flag_by.Goals as goal
 
 pub returns-in-Yes : goal.returns-in-Yes

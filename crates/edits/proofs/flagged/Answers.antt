@@ -1,7 +1,6 @@
 -- `edits::flagged` meets its contract. Assumes nothing.
 use Rattle.region.specs.View.{view_of}
 use Rattle.edits.proofs.Checked.{view_flagged, flag_back}
-use borrow.Author.Rules.{rules}
 use Rattle.edits.proofs.flagged.Goals as goal
 
 pub returns : goal.returns

@@ -1,7 +1,6 @@
 -- `edits::hold` meets its contract. Assumes nothing.
 use mathlib.Core.Path.{◌∙◌}
 use Rattle.edits.proofs.Checked.{hold_flagged}
-use borrow.Author.Rules.{rules}
 use Rattle.edits.proofs.hold.Goals as goal
 
 pub returns : goal.returns

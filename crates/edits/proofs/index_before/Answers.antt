@@ -2,7 +2,6 @@
 use native.Mathlib.Omega.{arith}
 use borrow.Author.Tests.{eq-eqb, ne_eqb}
 use Rattle.lists.specs.Cyclic.{prev_of}
-use borrow.Author.Rules.{rules}
 use Rattle.edits.proofs.index_before.Goals as goal
 
 pub returns-then-i-eq0 : goal.returns-then-i-eq0

@@ -2,7 +2,6 @@
 use native.Mathlib.Omega.{arith}
 use borrow.Author.Tests.{eq-eqb, ne_eqb}
 use Rattle.lists.specs.Cyclic.{there_of}
-use borrow.Author.Rules.{rules}
 use Rattle.edits.proofs.index_left.Goals as goal
 
 pub returns-then-i-n : goal.returns-then-i-n

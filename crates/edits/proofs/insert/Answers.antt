@@ -1,17 +1,16 @@
 -- `edits::insert` meets its contract. Assumes nothing.
-use Prim.Native.Nat.{◌-◌, ◌≤◌, ◌<◌}
+use Prim.Native.Nat.{◌≤◌, ◌<◌}
 use native.Mathlib.Omega.{arith}
 use mathlib.Core.Path.{◌≡◌, refl, sym, ap, ◌∙◌}
-use lib.ListN.{length, take}
+use lib.ListN.{length}
 use Rattle.domain.specs.Checks.{point_answer}
-use Rattle.lists.specs.Cyclic.{ins}
 use Rattle.region.specs.View.{nowhere}
 use Rattle.region.proofs.Edges.{nothing}
 use Rattle.region.proofs.Lengths.{unmap}
-use Rattle.region.proofs.Seam.{Counting, counting_room}
+use Rattle.region.proofs.Seam.{counting_room}
 use Rattle.edits.specs.Edits.{insert}
 use Rattle.edits.proofs.Checked.{refused_edit, done_edit, refused_by, done_by, insert_asked, insert_inside, asked_refused, asked_done}
-use Rattle.edits.proofs.Moved.{before_at, CornersMove, NormalsMove, Carrying, carrying_starts, carrying_turn, inserted}
+use Rattle.edits.proofs.Moved.{before_at, carrying_starts, carrying_turn, inserted}
 use Rattle.edits.proofs.Seams.{insert_starts, insert_front, insert_carried, insert_counted}
 use borrow.Author.Rules.{rules}
 use Rattle.edits.proofs.insert.Goals as goal

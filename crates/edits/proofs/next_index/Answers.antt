@@ -2,7 +2,6 @@
 use native.Mathlib.Omega.{arith}
 use borrow.Author.Tests.{eq-eqb, ne_eqb}
 use Rattle.lists.specs.Cyclic.{next_of}
-use borrow.Author.Rules.{rules}
 use Rattle.edits.proofs.next_index.Goals as goal
 
 pub returns-then-i-n : goal.returns-then-i-n

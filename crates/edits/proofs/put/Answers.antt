@@ -1,12 +1,12 @@
 -- `edits::put` meets its contract. Assumes nothing.
-use Prim.Native.Nat.{ℕ, ◌-◌, ◌≤◌}
+use Prim.Native.Nat.{ℕ, ◌≤◌}
 use native.Mathlib.Omega.{arith}
 use mathlib.Core.Path.{◌≡◌, refl, sym, ap, ◌∙◌}
 use mathlib.Core.List.{List}
-use lib.ListN.{length, take, set, length-set}
+use lib.ListN.{length, set, length-set}
 use Rattle.domain.specs.Checks.{point_answer}
 use Rattle.region.proofs.Lengths.{unmap}
-use Rattle.region.proofs.Seam.{Counting, counting_room, seams_start, seams_turn, seams_end}
+use Rattle.region.proofs.Seam.{counting_room, seams_start, seams_turn, seams_end}
 use Rattle.edits.specs.Edits.{put}
 use Rattle.edits.proofs.Checked.{refused_edit, done_edit, refused_by, done_by, put_asked, put_inside, asked_refused, asked_done}
 use Rattle.edits.proofs.Moved.{before_at}

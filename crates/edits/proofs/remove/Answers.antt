@@ -1,17 +1,16 @@
 -- `edits::remove` meets its contract. Assumes nothing.
-use Prim.Native.Nat.{◌-◌, ◌≤◌}
+use Prim.Native.Nat.{◌≤◌}
 use native.Mathlib.Omega.{arith}
 use mathlib.Core.Path.{◌≡◌, refl, sym, ap, ◌∙◌}
-use lib.ListN.{length, take}
-use Rattle.lists.specs.Cyclic.{del}
+use lib.ListN.{length}
 use Rattle.refusal.specs.Answer.{outcome_of}
 use Rattle.region.specs.View.{nowhere}
 use Rattle.region.proofs.Edges.{nothing}
 use Rattle.region.proofs.Lengths.{unmap}
-use Rattle.region.proofs.Seam.{Counting, counting_room}
+use Rattle.region.proofs.Seam.{counting_room}
 use Rattle.edits.specs.Edits.{remove}
 use Rattle.edits.proofs.Checked.{refused_edit, done_edit, refused_by, done_by}
-use Rattle.edits.proofs.Moved.{before_at, CornersMove, NormalsMove, Closing, closing_starts, closing_turn, removed}
+use Rattle.edits.proofs.Moved.{before_at, closing_starts, closing_turn, removed}
 use Rattle.edits.proofs.Seams.{remove_starts, remove_front, remove_closed, remove_counted}
 use borrow.Author.Rules.{rules}
 use Rattle.edits.proofs.remove.Goals as goal

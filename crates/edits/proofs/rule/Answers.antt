@@ -1,7 +1,6 @@
 -- `edits::rule` meets its contract. Assumes nothing.
 use mathlib.Core.Path.{◌∙◌}
 use Rattle.edits.proofs.Checked.{rule_flagged}
-use borrow.Author.Rules.{rules}
 use Rattle.edits.proofs.rule.Goals as goal
 
 pub returns : goal.returns

@@ -1,7 +1,6 @@
 -- `edits::turn` meets its contract. Assumes nothing.
 use Rattle.edits.specs.Edits.{changed}
 use Rattle.edits.proofs.Checked.{refused_edit, done_edit, refused_by, done_by, checked_none, checked_many, turn_done}
-use borrow.Author.Rules.{rules}
 use Rattle.edits.proofs.turn.Goals as goal
 
 pub returns-then-count-eq0 : goal.returns-then-count-eq0

@@ -10,7 +10,6 @@ use lib.IntN.{ℤ, pos, negsuc}
 use lib.Ieee.{Float, nan, inf, fin, binary64, up, down, lt, eq, neg, of_bits, fits}
 use lib.Ieee.Fits.{up_pos, down_pos}
 use Rattle.float.specs.Doubles.{abs_of, max_of, nought}
-use borrow.Author.Rules.{rules}
 use Rattle.float.proofs.abs.Goals as goal
 
 -- `float::abs` meets its contract, case by case. Assumes nothing.

@@ -1,4 +1,3 @@
-
 use Rattle.float.proofs.max.Goals as goal
 
 -- `float::max` meets its contract. Assumes nothing.

@@ -1,5 +1,4 @@
 use mathlib.Core.Path.{◌≡◌, refl, sym, ap, subst, ◌∙◌}
-use borrow.Author.Rules.{rules}
 use lib.Dec.{T}
 use lib.Ieee.{nan, binary64, to_bits}
 use lib.Ieee.Compare.{differs_from_itself}

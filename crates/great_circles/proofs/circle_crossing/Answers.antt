@@ -7,7 +7,6 @@ use Rattle.coo3d.specs.Vectors.{vect_of_point, cross_of, normalized_of, unit_opp
 use Rattle.crossings.specs.declared.Crossing.TheVariants.{None, At}
 use Rattle.region.specs.Edges.{Edge}
 use Rattle.great_circles.specs.Circles.{is_beyond, circle_crossing}
-use borrow.Author.Rules.{rules}
 use Rattle.great_circles.proofs.circle_crossing.Goals as goal
 
 module _ (n : Vect3) (e : Edge) (pa pb v : Vect3) (i : UnitVect3) (first : Bool) (ea : pa ≡ vect_of_point e.from) (eb : pb ≡ vect_of_point e.to) (ev : v ≡ cross_of e.normal n) (ei : i ≡ normalized_of v) (ef : first ≡ is_beyond i pa pb) where

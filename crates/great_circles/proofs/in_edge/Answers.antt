@@ -9,7 +9,6 @@ use Rattle.coo3d.specs.Vectors.{vect_of_point, vect_of_unit, dot_of}
 use Rattle.crossings.specs.declared.Crossing.TheVariants.{None, At}
 use Rattle.float.specs.Doubles.{abs_of}
 use Rattle.great_circles.specs.Arcs.{in_edge}
-use borrow.Author.Rules.{rules}
 use Rattle.great_circles.proofs.in_edge.Goals as goal
 
 -- the two comparisons, by what the calls answered

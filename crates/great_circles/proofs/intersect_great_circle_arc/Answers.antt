@@ -1,9 +1,8 @@
 -- `great_circles::intersect_great_circle_arc` meets its contract. Assumes nothing.
-use Prim.Native.Nat.{ℕ, ◌+◌, ◌-◌, ◌≤◌}
+use Prim.Native.Nat.{ℕ, ◌+◌}
 use native.Mathlib.Omega.{arith}
 use mathlib.Core.Path.{◌≡◌, sym, ap, ◌∙◌}
 use mathlib.Core.List.{List, [], ◌∷◌}
-use borrow.Author.Rules.{rules}
 use lib.ListN.{length}
 use Rattle.crossings.specs.declared.Crossing.{Crossing}
 use Rattle.crossings.specs.declared.Crossing.TheVariants.{None}
@@ -20,7 +19,7 @@ use Rattle.great_circles.specs.Arcs.{arc_crossing}
 use Rattle.great_circles.specs.Queries.{arc_first_of, arc_crossings}
 use Rattle.great_circles.proofs.Checked.{first_outside, second_outside, both_inside, by_longitude}
 use Rattle.region.proofs.Held.{held_edges}
-use Rattle.great_circles.proofs.Passing.{edges_by, left_by, edge_by, Stands, next_edge, stands_next, none_left, stands_first, all_left, Numbers, apart, one_side, crossed}
+use Rattle.great_circles.proofs.Passing.{edges_by, left_by, edge_by, next_edge, stands_next, none_left, stands_first, all_left, Numbers, apart, one_side, crossed}
 use Rattle.great_circles.proofs.intersect_great_circle_arc.Goals as goal
 use Rattle.great_circles.proofs.intersect_great_circle_arc.Goals.{After-are_overlapping_in_lon, After-test_finite, After-to_vect3-b_vect, Start}
 

@@ -1,10 +1,8 @@
 -- `great_circles::intersect_great_circle_arc_all` meets its contract. Assumes nothing.
-use Prim.Native.Nat.{◌+◌, ◌-◌, ◌≤◌, ◌<◌}
+use Prim.Native.Nat.{◌+◌, ◌<◌}
 use native.Mathlib.Omega.{arith}
 use mathlib.Core.Path.{◌≡◌, refl, sym, ap, ◌∙◌, subst}
 use mathlib.Core.List.{List}
-use mathlib.Core.Logic.{⊎_elim}
-use borrow.Author.Rules.{rules}
 use lib.ListN.{length}
 use Rattle.crossings.specs.declared.Crossing.{Crossing}
 use Rattle.crossings.specs.declared.Crossing.TheVariants.{None}
@@ -18,12 +16,12 @@ use Rattle.region.specs.Edges.{Edge}
 use Rattle.region.specs.View.{view_of}
 use Rattle.region.proofs.Lengths.{unmap}
 use Rattle.region.proofs.Edges.{edges_length}
-use Rattle.crossings.proofs.Gather.{Turn, turned, Gathered, gathered_start, gathered_none, gathered_at, gathered_refused, gathered_done}
+use Rattle.crossings.proofs.Gather.{Turn, turned, gathered_start, gathered_none, gathered_at, gathered_refused, gathered_done}
 use Rattle.great_circles.specs.Arcs.{arc_crossing}
 use Rattle.great_circles.specs.Queries.{arc_all_of, arc_crossings}
 use Rattle.great_circles.proofs.Checked.{first_outside, second_outside, both_inside, by_longitude}
 use Rattle.region.proofs.Held.{held, held_edges}
-use Rattle.great_circles.proofs.Passing.{edges_by, left_by, edge_by, Stands, next_edge, stands_next, none_left, stands_first, all_left, Numbers, apart, one_side, crossed}
+use Rattle.great_circles.proofs.Passing.{edges_by, left_by, edge_by, next_edge, stands_next, none_left, stands_first, all_left, Numbers, apart, one_side, crossed}
 use Rattle.great_circles.proofs.intersect_great_circle_arc_all.Goals as goal
 use Rattle.great_circles.proofs.intersect_great_circle_arc_all.Goals.{After-are_overlapping_in_lon, After-to_vect3-b_vect, Start}
 
@@ -145,11 +143,11 @@ loop-i-preserved c =
     let next = stands_next c.loop-i.invariant.0 c.loop-i-test.true in
     elim c.if-are_overlapping_in_lon.branch [
       | goal.then-are_overlapping_in_lon+then-ua-ub+in-Crossing+in-At w ↦
-        (next, gathered_at (here z (crossed (numbers z) w.dot_product-ua.ensures w.dot_product-ub.ensures w.if-are_overlapping_in_lon.true w.if-ua-ub.true w.point_in_edge.ensures) w.test_finite.ensures) g _ (w.in-Crossing.is ∙ ap tested.Crossing w.in-At.is) w.points-is w.len-is)
+          (next, gathered_at (here z (crossed (numbers z) w.dot_product-ua.ensures w.dot_product-ub.ensures w.if-are_overlapping_in_lon.true w.if-ua-ub.true w.point_in_edge.ensures) w.test_finite.ensures) g _ (w.in-Crossing.is ∙ ap tested.Crossing w.in-At.is) w.points-is w.len-is)
       | goal.then-are_overlapping_in_lon+then-ua-ub+in-Crossing+in-None w ↦
-        (next, gathered_none (here z (crossed (numbers z) w.dot_product-ua.ensures w.dot_product-ub.ensures w.if-are_overlapping_in_lon.true w.if-ua-ub.true w.point_in_edge.ensures) w.test_finite.ensures) g (w.in-Crossing.is ∙ ap tested.Crossing w.in-None.is) w.points-is w.len-is)
+          (next, gathered_none (here z (crossed (numbers z) w.dot_product-ua.ensures w.dot_product-ub.ensures w.if-are_overlapping_in_lon.true w.if-ua-ub.true w.point_in_edge.ensures) w.test_finite.ensures) g (w.in-Crossing.is ∙ ap tested.Crossing w.in-None.is) w.points-is w.len-is)
       | goal.then-are_overlapping_in_lon+else-ua-ub w ↦
-        (next, gathered_none (no_crossing z (one_side (numbers z) w.dot_product-ua.ensures w.dot_product-ub.ensures w.if-are_overlapping_in_lon.true w.if-ua-ub.false)) g refl w.points-is w.len-is)
+          (next, gathered_none (no_crossing z (one_side (numbers z) w.dot_product-ua.ensures w.dot_product-ub.ensures w.if-are_overlapping_in_lon.true w.if-ua-ub.false)) g refl w.points-is w.len-is)
       | goal.else-are_overlapping_in_lon w ↦ (next, gathered_none (no_crossing z (apart (numbers z) w.if-are_overlapping_in_lon.false)) g refl w.points-is w.len-is)
     ]
 

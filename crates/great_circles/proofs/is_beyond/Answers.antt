@@ -1,6 +1,5 @@
 -- `great_circles::is_beyond` meets its contract. Assumes nothing.
 use Rattle.great_circles.specs.Circles.{is_beyond}
-use borrow.Author.Rules.{rules}
 use Rattle.great_circles.proofs.is_beyond.Goals as goal
 
 pub returns : goal.returns

@@ -1,7 +1,6 @@
 -- `great_circles::is_intersecting_great_circle_arc` meets its contract. Assumes nothing.
 use mathlib.Core.Path.{ap, ◌∙◌}
 use Rattle.crossings.specs.Crossings.{intersecting_of}
-use borrow.Author.Rules.{rules}
 use Rattle.great_circles.proofs.is_intersecting_great_circle_arc.Goals as goal
 
 pub returns : goal.returns

@@ -1,6 +1,5 @@
 -- `great_circles::normalized_intersect_point` meets its contract. Assumes nothing.
 use Rattle.great_circles.specs.Arcs.{intersect_point}
-use borrow.Author.Rules.{rules}
 use Rattle.great_circles.proofs.normalized_intersect_point.Goals as goal
 
 pub returns : goal.returns

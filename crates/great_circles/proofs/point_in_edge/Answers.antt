@@ -1,5 +1,4 @@
 -- `great_circles::point_in_edge` meets its contract. Assumes nothing.
-use borrow.Author.Rules.{rules}
 use Rattle.great_circles.proofs.point_in_edge.Goals as goal
 
 pub returns : goal.returns

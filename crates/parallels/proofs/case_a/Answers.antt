@@ -1,6 +1,5 @@
 -- `parallels::case_a` meets its contract. Assumes nothing.
 use Rattle.parallels.specs.Parallels.{case_a}
-use borrow.Author.Rules.{rules}
 use Rattle.parallels.proofs.case_a.Goals as goal
 
 pub returns : goal.returns

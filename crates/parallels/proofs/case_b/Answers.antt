@@ -1,6 +1,5 @@
 -- `parallels::case_b` meets its contract. Assumes nothing.
 use Rattle.parallels.specs.Parallels.{case_b}
-use borrow.Author.Rules.{rules}
 use Rattle.parallels.proofs.case_b.Goals as goal
 
 pub returns-then-z-pa : goal.returns-then-z-pa

@@ -1,7 +1,6 @@
 -- `parallels::either` meets its contract. Assumes nothing.
 use mathlib.Core.Path.{sym}
 use Rattle.parallels.specs.Parallels.{either_of}
-use borrow.Author.Rules.{rules}
 use Rattle.parallels.proofs.either.Goals as goal
 
 pub returns-then-is_between : goal.returns-then-is_between

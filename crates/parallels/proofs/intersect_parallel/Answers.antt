@@ -1,11 +1,10 @@
 -- `parallels::intersect_parallel` meets its contract. Assumes nothing.
 -- The loop's invariant: the edges that are left decide as all of them do. The measure is how many are left.
-use Prim.Native.Nat.{◌+◌, ◌-◌, ◌≤◌, ◌<◌}
+use Prim.Native.Nat.{◌+◌, ◌≤◌, ◌<◌}
 use native.Mathlib.Omega.{arith}
 use mathlib.Core.Path.{◌≡◌, refl, sym, ap, ◌∙◌}
 use mathlib.Core.Bool.{false, not}
 use borrow.Author.Rules.{rules}
-use lib.Ieee.{le}
 use lib.ListN.{length, get_or}
 use Rattle.crossings.specs.declared.Crossing.{Crossing}
 use Rattle.crossings.specs.declared.Tested.TheVariants as tested
@@ -17,7 +16,7 @@ use Rattle.region.proofs.Edges.{edges_left, start}
 use Rattle.region.proofs.Lengths.{unmap}
 use Rattle.parallels.proofs.Given.{parallel_refused, parallel_passed}
 use Rattle.parallels.proofs.First.{fit_not, fit_here, fit_nowhere, only_passed, only_refused}
-use Rattle.region.proofs.Held.{held, held_of, held_edges}
+use Rattle.region.proofs.Held.{held_of, held_edges}
 use Rattle.parallels.proofs.Sides.{alike, one_side}
 use Rattle.parallels.specs.Parallels.{spans_lat}
 use Rattle.parallels.specs.Queries.{first_fit, parallel_first_of}
@@ -106,8 +105,8 @@ loop-i-preserved c =
     elim c.if-from_below-to_below.branch [
       | goal.then-from_below-to_below+else-spans_lat w ↦ (search rules, search rules, w.from_below-is, pass x (search rules) (sym w.spans_lat.ensures ∙ w.if-spans_lat.false))
       | goal.else-from_below-to_below w ↦
-        let same = alike _ _ w.if-from_below-to_below.false in
-        (search rules, search rules, w.from_below-is ∙ same, pass x (search rules) (one_side _ _ _ (sym x.loop-i.invariant.2 ∙ same)))
+          let same = alike _ _ w.if-from_below-to_below.false in
+          (search rules, search rules, w.from_below-is ∙ same, pass x (search rules) (one_side _ _ _ (sym x.loop-i.invariant.2 ∙ same)))
     ]
 
 pub returns : goal.returns

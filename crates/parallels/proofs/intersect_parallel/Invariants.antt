@@ -1,27 +1,13 @@
 -- `parallels::intersect_parallel` meets its contract. Assumes nothing.
 -- The loop's invariant: the edges that are left decide as all of them do. The measure is how many are left.
-use Prim.Native.Nat.{◌+◌, ◌-◌, ◌≤◌, ◌<◌}
-use native.Mathlib.Omega.{arith}
-use mathlib.Core.Path.{◌≡◌, refl, sym, ap, ◌∙◌}
-use mathlib.Core.Bool.{false}
-use mathlib.Core.Logic.{⊎_elim}
-use borrow.Author.Rules.{rules}
+use Prim.Native.Nat.{◌-◌, ◌≤◌, ◌<◌}
+use mathlib.Core.Path.{◌≡◌}
 use lib.Ieee.{le}
-use lib.ListN.{length, get_or}
-use Rattle.crossings.specs.declared.Crossing.{Crossing}
-use Rattle.crossings.specs.declared.Tested.TheVariants as tested
-use Rattle.crossings.specs.Crossings.{tested_answer, listed, first_of}
-use Rattle.domain.proofs.Counts.{count_none, count_many}
-use Rattle.refusal.specs.Answer.{answered}
+use lib.ListN.{get_or}
 use Rattle.region.specs.View.{view_of, edges_of, nowhere}
-use Rattle.region.proofs.Edges.{edges_left, start}
-use Rattle.region.proofs.Lengths.{unmap}
-use Rattle.parallels.proofs.Given.{parallel_refused, parallel_passed}
-use Rattle.parallels.proofs.First.{fit_not, fit_here, fit_nowhere, only_passed, only_refused}
-use Rattle.region.proofs.Held.{held, held_of, held_edges}
-use Rattle.parallels.proofs.Sides.{alike, one_side}
-use Rattle.parallels.specs.Parallels.{spans_lat}
-use Rattle.parallels.specs.Queries.{first_fit, parallel_first_of}
+use Rattle.region.proofs.Edges.{edges_left}
+use Rattle.region.proofs.Held.{held}
+use Rattle.parallels.specs.Queries.{first_fit}
 use Rattle.parallels.proofs.intersect_parallel.Given as goal
 
 abbrev pub invariant-loop-i : goal.invariant-loop-i

@@ -1,26 +1,25 @@
 -- `parallels::intersect_parallel_all` meets its contract. Assumes nothing.
 -- The loop's invariant: the list so far, filled on with the edges that are left, is what it comes to from the start.
 -- The measure is how many edges are left.
-use Prim.Native.Nat.{◌+◌, ◌-◌, ◌≤◌, ◌<◌}
+use Prim.Native.Nat.{◌+◌, ◌≤◌, ◌<◌}
 use native.Mathlib.Omega.{arith}
 use mathlib.Core.Path.{◌≡◌, refl, sym, ap, subst, ◌∙◌}
 use mathlib.Core.List.{List}
 use mathlib.Core.Bool.{not}
 use borrow.Author.Rules.{rules}
-use lib.Ieee.{le}
 use lib.ListN.{length, get_or}
 use Rattle.crossings.specs.declared.Crossing.{Crossing}
 use Rattle.crossings.specs.declared.Tested.{Tested}
 use Rattle.crossings.specs.declared.Tested.TheVariants as tested
 use Rattle.crossings.specs.Crossings.{crossings_of, tested_answer, tested_of, all_of, Lists}
-use Rattle.crossings.proofs.Gather.{Turn, turned, Gathered, gathered_start, gathered_none, gathered_at, gathered_refused, gathered_done}
+use Rattle.crossings.proofs.Gather.{Turn, turned, gathered_start, gathered_none, gathered_at, gathered_refused, gathered_done}
 use Rattle.domain.proofs.Counts.{count_none, count_many}
 use Rattle.region.specs.Edges.{Edge}
 use Rattle.region.specs.View.{view_of, nowhere, edges_of}
 use Rattle.region.proofs.Edges.{nothing, edges_left, start, turn, done, edges_length}
 use Rattle.region.proofs.Lengths.{unmap}
 use Rattle.parallels.proofs.Given.{parallel_refused, parallel_passed}
-use Rattle.region.proofs.Held.{held, held_of, held_edges}
+use Rattle.region.proofs.Held.{held_of, held_edges}
 use Rattle.parallels.proofs.Sides.{alike, one_side, not_crossed}
 use Rattle.parallels.specs.Parallels.{parallel_crossing}
 use Rattle.parallels.specs.Queries.{parallel_all_of}
@@ -86,12 +85,12 @@ loop-i-preserved c =
     let g = x.loop-i.invariant.3 in
     elim c.if-from_below-to_below.branch [
       | goal.then-from_below-to_below+in-Crossing+in-At w ↦
-        (search rules, search rules, w.from_below-is, gathered_at (here x (search rules) w.parallel_crossing.ensures w.test_finite.ensures) g _ (w.in-Crossing.is ∙ ap tested.Crossing w.in-At.is) w.points-is w.len-is)
+          (search rules, search rules, w.from_below-is, gathered_at (here x (search rules) w.parallel_crossing.ensures w.test_finite.ensures) g _ (w.in-Crossing.is ∙ ap tested.Crossing w.in-At.is) w.points-is w.len-is)
       | goal.then-from_below-to_below+in-Crossing+in-None w ↦
-        (search rules, search rules, w.from_below-is, gathered_none (here x (search rules) w.parallel_crossing.ensures w.test_finite.ensures) g (w.in-Crossing.is ∙ ap tested.Crossing w.in-None.is) w.points-is w.len-is)
+          (search rules, search rules, w.from_below-is, gathered_none (here x (search rules) w.parallel_crossing.ensures w.test_finite.ensures) g (w.in-Crossing.is ∙ ap tested.Crossing w.in-None.is) w.points-is w.len-is)
       | goal.else-from_below-to_below w ↦
-        let same = alike _ _ w.if-from_below-to_below.false in
-        (search rules, search rules, w.from_below-is ∙ same, gathered_none (here x (search rules) (not_crossed _ _ _ _ (one_side _ _ _ (sym x.loop-i.invariant.2 ∙ same))) refl) g refl w.points-is w.len-is)
+          let same = alike _ _ w.if-from_below-to_below.false in
+          (search rules, search rules, w.from_below-is ∙ same, gathered_none (here x (search rules) (not_crossed _ _ _ _ (one_side _ _ _ (sym x.loop-i.invariant.2 ∙ same))) refl) g refl w.points-is w.len-is)
     ]
 
 pub returns : goal.returns

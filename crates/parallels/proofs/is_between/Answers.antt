@@ -1,6 +1,5 @@
 -- `parallels::is_between` meets its contract. Assumes nothing.
 use Rattle.parallels.specs.Parallels.{straddles}
-use borrow.Author.Rules.{rules}
 use Rattle.parallels.proofs.is_between.Goals as goal
 
 pub returns : goal.returns

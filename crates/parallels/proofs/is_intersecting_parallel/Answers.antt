@@ -1,7 +1,6 @@
 -- `parallels::is_intersecting_parallel` meets its contract. Assumes nothing.
 use mathlib.Core.Path.{ap, ◌∙◌}
 use Rattle.crossings.specs.Crossings.{intersecting_of}
-use borrow.Author.Rules.{rules}
 use Rattle.parallels.proofs.is_intersecting_parallel.Goals as goal
 
 pub returns : goal.returns

@@ -5,7 +5,6 @@ use lib.Ieee.{Float, neg, of_bits}
 use Rattle.float.specs.Doubles.{inclusive, one, half_pi}
 use Rattle.float.proofs.Finite.{between_finite}
 use Rattle.parallels.specs.Parallels.{is_parallel}
-use borrow.Author.Rules.{rules}
 use Rattle.parallels.proofs.is_parallel.Goals as goal
 
 -- three tests that hold only with three others add nothing to them

@@ -1,7 +1,6 @@
 -- `parallels::parallel_crossing` meets its contract. Assumes nothing.
 use mathlib.Core.Path.{sym}
 use Rattle.parallels.specs.Parallels.{parallel_crossing}
-use borrow.Author.Rules.{rules}
 use Rattle.parallels.proofs.parallel_crossing.Goals as goal
 
 pub returns-then-spans_lat : goal.returns-then-spans_lat

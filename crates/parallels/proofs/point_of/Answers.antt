@@ -2,7 +2,6 @@
 use lib.Ieee.{ne}
 use Rattle.parallels.proofs.Ends.{in_order}
 use Rattle.parallels.specs.Parallels.{point_of}
-use borrow.Author.Rules.{rules}
 use Rattle.parallels.proofs.point_of.Goals as goal
 
 pub returns-then-n : goal.returns-then-n

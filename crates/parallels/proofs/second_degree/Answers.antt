@@ -1,7 +1,6 @@
 -- `parallels::second_degree` meets its contract. Assumes nothing.
 use mathlib.Core.Path.{sym}
 use Rattle.parallels.specs.Parallels.{either_of, second_degree}
-use borrow.Author.Rules.{rules}
 use Rattle.parallels.proofs.second_degree.Goals as goal
 
 pub returns-then-is_between : goal.returns-then-is_between

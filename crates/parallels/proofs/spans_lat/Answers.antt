@@ -1,6 +1,5 @@
 -- `parallels::spans_lat` meets its contract. Assumes nothing.
 use Rattle.parallels.specs.Parallels.{spans_lat}
-use borrow.Author.Rules.{rules}
 use Rattle.parallels.proofs.spans_lat.Goals as goal
 
 pub returns : goal.returns

@@ -1,4 +1,3 @@
-
 use Rattle.refusal.proofs.decide.Goals as goal
 
 -- `refusal::decide` meets its contract. Assumes nothing.

@@ -1,7 +1,6 @@
 -- `region::add_step` meets its contract. Assumes nothing.
 use mathlib.Core.Path.{sym}
 use Rattle.region.specs.Poles.{step_of}
-use borrow.Author.Rules.{rules}
 use Rattle.region.proofs.add_step.Goals as goal
 
 pub returns-then-size : goal.returns-then-size

@@ -1,16 +1,14 @@
 -- `region::basic` meets its contract. Assumes nothing.
-use Prim.Native.Nat.{◌-◌, ◌≤◌}
+use Prim.Native.Nat.{◌≤◌}
 use native.Mathlib.Omega.{arith}
 use mathlib.Core.Path.{◌≡◌, sym, ◌∙◌}
 use borrow.Author.Rules.{rules}
-use lib.ListN.{length, take, drop}
-use Rattle.region.specs.Poles.{basic_from, basic_of}
+use lib.ListN.{length}
 use Rattle.region.proofs.Corners.{basic_start, basic_turn, basic_done}
 use Rattle.region.proofs.basic.Goals as goal
 use Rattle.region.proofs.basic.Goals.{Start}
 
 long : (c : Start) → c.args.count ≤ length c.args.vertices
-
 long c = let e : length c.args.vertices ≡ 64 = search rules in omega arith
 
 pub loop-i-init : goal.loop-i-init

@@ -1,11 +1,8 @@
 -- `region::basic` meets its contract. Assumes nothing.
 use Prim.Native.Nat.{◌-◌, ◌≤◌}
-use native.Mathlib.Omega.{arith}
-use mathlib.Core.Path.{◌≡◌, sym, ◌∙◌}
-use borrow.Author.Rules.{rules}
-use lib.ListN.{length, take, drop}
+use mathlib.Core.Path.{◌≡◌}
+use lib.ListN.{take, drop}
 use Rattle.region.specs.Poles.{basic_from, basic_of}
-use Rattle.region.proofs.Corners.{basic_start, basic_turn, basic_done}
 use Rattle.region.proofs.basic.Given as goal
 
 abbrev pub invariant-loop-i : goal.invariant-loop-i

@@ -5,7 +5,6 @@ use Rattle.region.specs.Region.{rule_answer}
 use Rattle.region.proofs.Rules.{rule_again}
 use Rattle.region.proofs.Answered.{builds_done, builds_same}
 use Rattle.region.proofs.Building.{built_view, not_ruled, in_range, rule_refused, rule_taken}
-use borrow.Author.Rules.{rules}
 use Rattle.region.proofs.build.Goals as goal
 
 pub returns-in_default : goal.returns-in_default

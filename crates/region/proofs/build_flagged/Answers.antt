@@ -1,12 +1,11 @@
 -- `region::build_flagged` meets its contract. Assumes nothing.
-use Prim.Native.Nat.{◌-◌}
 use native.Mathlib.Omega.{arith}
 use mathlib.Core.Path.{◌≡◌, refl, sym, ap, ◌∙◌}
-use lib.ListN.{length, take}
+use lib.ListN.{length}
 use borrow.Author.Rules.{rules}
 use Rattle.domain.specs.Checks.{point_answer}
-use Rattle.region.proofs.Building.{Checking, checking_starts, checking_good, checking_bad, Working, working_starts, working_turn, seams_first, seams_next, not_built, no_points, many_points, ends}
-use Rattle.region.proofs.Seam.{Counting, counting_room}
+use Rattle.region.proofs.Building.{checking_starts, checking_good, checking_bad, working_starts, working_turn, seams_first, seams_next, not_built, no_points, many_points, ends}
+use Rattle.region.proofs.Seam.{counting_room}
 use Rattle.region.proofs.build_flagged.Goals as goal
 
 pub returns-then-count-eq0 : goal.returns-then-count-eq0

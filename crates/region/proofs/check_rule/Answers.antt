@@ -4,7 +4,6 @@ use Rattle.domain.specs.Checks.{point_answer}
 use Rattle.region.specs.declared.ContainsSouthPoleMethod.TheVariants.{ControlPointIn, ControlPointOut}
 use Rattle.region.specs.Region.{rule_at}
 use Rattle.region.proofs.Rules.{by_point_in, by_point_out, point_outside, point_inside, rule_plain}
-use borrow.Author.Rules.{rules}
 use Rattle.region.proofs.check_rule.Goals as goal
 
 pub returns-in_default : goal.returns-in_default

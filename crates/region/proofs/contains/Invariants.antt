@@ -1,23 +1,11 @@
 -- `region::contains` meets its contract. Assumes nothing.
-use Prim.Native.Nat.{ℕ, ◌-◌, ◌≤◌}
-use mathlib.Core.Path.{◌≡◌, refl, sym, ap, ◌∙◌}
-use mathlib.Core.Bool.{Bool}
-use mathlib.Core.Logic.{inl, inr}
-use mathlib.Core.List.{List, [], ◌∷◌}
-use lib.ListN.{length}
-use borrow.Author.Rules.{rules}
-use Rattle.coo3d.specs.declared.Coo3D.{Coo3D}
-use Rattle.domain.specs.Checks.{point_answer, point_at}
-use Rattle.domain.proofs.Counts.{count_none, count_many}
+use Prim.Native.Nat.{◌-◌, ◌≤◌}
+use mathlib.Core.Path.{◌≡◌}
 use Rattle.lists.specs.Counts.{exactly_one, odd_many}
-use Rattle.refusal.specs.Answer.{answered, refused}
 use Rattle.region.specs.Edges.{is_counted}
-use Rattle.region.specs.View.{View, view_of, contained}
-use Rattle.region.specs.Region.{contains_of}
-use Rattle.region.proofs.Lengths.{unmap}
-use Rattle.region.proofs.Held.{held, held_of}
-use Rattle.region.proofs.Edges.{edges_left, edge_at, start}
-use Rattle.region.proofs.Containing.{asked_outside, asked_inside, started, passed, all_passed, out_of_range, in_range_there, room}
+use Rattle.region.specs.View.{view_of, contained}
+use Rattle.region.proofs.Held.{held}
+use Rattle.region.proofs.Edges.{edges_left}
 use Rattle.region.proofs.contains.Given as goal
 
 abbrev pub invariant-loop-i : goal.invariant-loop-i

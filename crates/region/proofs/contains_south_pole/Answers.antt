@@ -5,7 +5,6 @@ use Rattle.refusal.specs.Answer.{answered}
 use Rattle.region.specs.Region.{flag_of, rule_answer}
 use Rattle.region.proofs.Rules.{no_zero, rule_again}
 use Rattle.region.proofs.Flags.{flag_checked, flag_refused}
-use borrow.Author.Rules.{rules}
 use Rattle.region.proofs.contains_south_pole.Goals as goal
 
 pub returns-then-count-eq0 : goal.returns-then-count-eq0

@@ -4,7 +4,6 @@ use lib.Ieee.{lt}
 use Rattle.float.specs.Doubles.{pi}
 use Rattle.float.proofs.Magnitude.{beyond_pi}
 use Rattle.region.specs.Edges.{crosses_seam}
-use borrow.Author.Rules.{rules}
 use Rattle.region.proofs.crosses_seam.Goals as goal
 
 pub returns : goal.returns

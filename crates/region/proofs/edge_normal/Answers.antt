@@ -7,7 +7,6 @@ use Rattle.coo3d.specs.declared.Vect3.{Vect3}
 use Rattle.coo3d.specs.Vectors.{vect_of_point, cross_of, opposite_of}
 use Rattle.float.specs.Doubles.{nought}
 use Rattle.region.specs.Edges.{northward, normal_of}
-use borrow.Author.Rules.{rules}
 use Rattle.region.proofs.edge_normal.Goals as goal
 
 south : (v : Vect3) → lt v.z nought ≡ true → northward v ≡ opposite_of v

@@ -1,10 +1,9 @@
 -- `region::flag_by_rule` meets its contract. Assumes nothing.
-use mathlib.Core.Path.{sym, ap, ◌∙◌}
+use mathlib.Core.Path.{ap}
 use mathlib.Core.Bool.{not}
 use Rattle.region.specs.declared.ContainsSouthPoleMethod.TheVariants.{ControlPointIn, ControlPointOut}
 use Rattle.region.specs.Poles.{rule_flag}
 use Rattle.region.proofs.Rules.{by_point_in, by_point_out, one_point_in, one_point_out, point_of}
-use borrow.Author.Rules.{rules}
 use Rattle.region.proofs.flag_by_rule.Goals as goal
 
 pub odd_at-requires : goal.odd_at-requires

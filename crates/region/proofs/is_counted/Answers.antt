@@ -1,6 +1,5 @@
 -- `region::is_counted` meets its contract. Assumes nothing.
 use Rattle.region.specs.Edges.{is_counted}
-use borrow.Author.Rules.{rules}
 use Rattle.region.proofs.is_counted.Goals as goal
 
 pub returns : goal.returns

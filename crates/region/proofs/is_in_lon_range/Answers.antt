@@ -1,6 +1,5 @@
 -- `region::is_in_lon_range` meets its contract. Assumes nothing.
 use Rattle.region.specs.Edges.{in_lon_range}
-use borrow.Author.Rules.{rules}
 use Rattle.region.proofs.is_in_lon_range.Goals as goal
 
 pub returns-then-dlon : goal.returns-then-dlon

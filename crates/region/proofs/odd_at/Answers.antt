@@ -2,7 +2,6 @@
 use mathlib.Core.Path.{sym, ap, ◌∙◌}
 use Rattle.refusal.specs.Answer.{decision_answer}
 use Rattle.region.proofs.Rules.{odd_yes, odd_no, never_told}
-use borrow.Author.Rules.{rules}
 use Rattle.region.proofs.odd_at.Goals as goal
 
 pub returns-in-Yes : goal.returns-in-Yes

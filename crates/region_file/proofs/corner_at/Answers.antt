@@ -3,7 +3,6 @@ use mathlib.Core.Path.{◌≡◌}
 use lib.Ieee.{Float}
 use Rattle.coo3d.specs.declared.Coo3D.{Coo3D}
 use Rattle.region_file.specs.Bytes.{corner_at}
-use borrow.Author.Rules.{rules}
 use Rattle.region_file.proofs.corner_at.Goals as goal
 
 same : (a b c d e x y z lon lat : Float) → a ≡ x → b ≡ y → c ≡ z → d ≡ lon → e ≡ lat → ◌≡◌ {A = Coo3D} (record { x = a; y = b; z = c; lon = d; lat = e }) (record { x = x; y = y; z = z; lon = lon; lat = lat })

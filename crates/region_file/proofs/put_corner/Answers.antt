@@ -7,7 +7,6 @@ use lib.Ieee.{Float, binary64, to_bits}
 use lib.Seq.{sets}
 use Rattle.region_file.specs.Bytes.{bytes_of, double_bytes, corner_bytes}
 use Rattle.region_file.proofs.Numbers.{run}
-use borrow.Author.Rules.{rules}
 use Rattle.region_file.proofs.put_corner.Goals as goal
 
 five : (l₀ l₁ l₂ l₃ l₄ l₅ : List ℕ) (at a b c d e : ℕ) (x y z lon lat : Float) → a ≡ to_bits binary64 x → b ≡ to_bits binary64 y → c ≡ to_bits binary64 z → d ≡ to_bits binary64 lon → e ≡ to_bits binary64 lat

@@ -8,7 +8,6 @@ use lib.Seq.{sets}
 use Rattle.region_file.specs.Bytes.{bytes_of}
 use Rattle.region_file.specs.File.{flag_bytes, trailer_bytes}
 use Rattle.region_file.proofs.Numbers.{run, flag_number}
-use borrow.Author.Rules.{rules}
 use Rattle.region_file.proofs.put_trailer.Goals as goal
 
 four : (l₀ l₁ l₂ l₃ l₄ : List ℕ) (at a b c d : ℕ) (flag : Bool) → b ≡ cond flag 1 0

@@ -1,15 +1,11 @@
 -- `region_file::read` meets its contract. Assumes nothing.
-use Prim.Native.Nat.{ℕ, ◌+◌, ◌-◌, ◌*◌, ◌≤◌}
 use native.Mathlib.Omega.{arith}
 use mathlib.Core.Path.{◌≡◌, sym, ap, ◌∙◌}
-use lib.ListN.{length}
 use Rattle.refusal.specs.Answer.{answered}
 use Rattle.region.proofs.Answered.{builds_same}
-use Rattle.region_file.specs.declared.Trailer.{Trailer}
-use Rattle.region_file.specs.File.{file_length, trailer_of, trailer_answer}
+use Rattle.region_file.specs.File.{trailer_of, trailer_answer}
 use Rattle.region_file.proofs.Trailers.{Accepted, accepted}
 use Rattle.region_file.proofs.Reading.{read_refused, read_built}
-use borrow.Author.Rules.{rules}
 use Rattle.region_file.proofs.read.Goals as goal
 use Rattle.region_file.proofs.read.Goals.{In-Trailer}
 

@@ -1,7 +1,6 @@
 -- `region_file::read_trailer` meets its contract. Assumes nothing.
 use mathlib.Core.Path.{sym, ◌∙◌}
 use Rattle.region_file.proofs.Trailers.{fields, short_file, other_edition, other_flag, no_corner, many_corners, no_distance, cut, good}
-use borrow.Author.Rules.{rules}
 use Rattle.region_file.proofs.read_trailer.Goals as goal
 
 pub returns-then-len-lt16 : goal.returns-then-len-lt16

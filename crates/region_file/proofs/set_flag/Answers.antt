@@ -13,7 +13,6 @@ use Rattle.region_file.specs.Bytes.{bytes_of}
 use Rattle.region_file.specs.File.{flag_bytes, trailer_of, trailer_answer, with_flag_field}
 use Rattle.region_file.proofs.Numbers.{length_bytes, flag_number}
 use Rattle.region_file.proofs.Trailers.{accepted}
-use borrow.Author.Rules.{rules}
 use Rattle.region_file.proofs.set_flag.Goals as goal
 
 -- a trailer that is taken

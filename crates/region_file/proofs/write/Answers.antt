@@ -1,14 +1,13 @@
 -- `region_file::write` meets its contract. Assumes nothing.
-use Prim.Native.Nat.{ℕ, ◌-◌, ◌*◌, ◌≤◌}
+use Prim.Native.Nat.{ℕ, ◌≤◌}
 use native.Mathlib.Omega.{arith}
 use mathlib.Core.Path.{◌≡◌, refl, sym, ◌∙◌}
 use mathlib.Core.List.{List}
-use lib.ListN.{length, take, drop}
-use lib.Seq.{sets, length-take-le}
+use lib.ListN.{length}
+use lib.Seq.{length-take-le}
 use borrow.Author.Rules.{rules}
 use Rattle.coo3d.specs.declared.Coo3D.{Coo3D}
 use Rattle.region.proofs.Lengths.{unmap}
-use Rattle.region_file.specs.Bytes.{corners_bytes}
 use Rattle.region_file.proofs.Writing.{store_turn, store_done, write_none, write_many, write_short, write_done}
 use Rattle.region.specs.View.{view_of}
 use Rattle.region_file.proofs.write.Goals as goal

@@ -1,15 +1,9 @@
 -- `region_file::write` meets its contract. Assumes nothing.
-use Prim.Native.Nat.{ℕ, ◌-◌, ◌*◌, ◌≤◌}
-use native.Mathlib.Omega.{arith}
-use mathlib.Core.Path.{◌≡◌, refl, sym, ◌∙◌}
-use mathlib.Core.List.{List}
+use Prim.Native.Nat.{◌-◌, ◌*◌, ◌≤◌}
+use mathlib.Core.Path.{◌≡◌}
 use lib.ListN.{length, take, drop}
-use lib.Seq.{sets, length-take-le}
-use borrow.Author.Rules.{rules}
-use Rattle.coo3d.specs.declared.Coo3D.{Coo3D}
-use Rattle.region.proofs.Lengths.{unmap}
+use lib.Seq.{sets}
 use Rattle.region_file.specs.Bytes.{corners_bytes}
-use Rattle.region_file.proofs.Writing.{store_turn, store_done, write_none, write_many, write_short, write_done}
 use Rattle.region_file.proofs.write.Given as goal
 
 abbrev pub invariant-loop-i : goal.invariant-loop-i

@@ -1,5 +1,5 @@
 -- `root::by_digits` meets its contract. Assumes nothing.
-use Rattle.std.proofs.Common.{◌≡◌, ℕ, ◌+◌, ◌*◌, ◌/◌, ◌^◌, ◌<◌, subst, arith, rules}
+use Rattle.std.proofs.Common.{◌≡◌, ℕ, ◌+◌, ◌*◌, ◌/◌, ◌^◌, ◌<◌, subst, arith}
 use Rattle.root.specs.Whole.{IsRoot}
 use Rattle.root.proofs.Laws.{nearest_is, root_short}
 use Rattle.root.proofs.by_digits.Goals as goal

@@ -1,5 +1,5 @@
 -- `root::checked` meets its contract, by the laws of `proofs/Remainder.antt`. Assumes nothing.
-use Rattle.std.proofs.Common.{◌≡◌, ℕ, ◌+◌, ◌*◌, ◌/◌, ◌%◌, ◌^◌, ◌<◌, ◌≤◌, sym, ap, ◌∙◌, arith, rules}
+use Rattle.std.proofs.Common.{◌≡◌, ℕ, ◌+◌, ◌*◌, ◌/◌, ◌%◌, ◌^◌, sym, ap, ◌∙◌, arith}
 use Rattle.root.proofs.Remainder.{Tested, at_once, one_more}
 use Rattle.root.proofs.checked.Goals as goal
 use Rattle.root.proofs.checked.Goals.{After-wrapping_sub_u64-r}

@@ -1,6 +1,6 @@
 -- `root::digits` meets its contract. The loop's invariant: the root of the number's first 2 i digits, and the digits that follow them.
 -- The measure is what is left of the width. Assumes nothing.
-use Rattle.std.proofs.Common.{◌≡◌, ℕ, ◌+◌, ◌-◌, ◌*◌, ◌/◌, ◌%◌, ◌^◌, ◌<◌, ◌≤◌, ltb, sym, ap, ◌∙◌, subst, le_trans, lt_of_lt_of_le, le_antisymm, mul_left_comm, arith, pow_mono, rules}
+use Rattle.std.proofs.Common.{◌≡◌, ℕ, ◌+◌, ◌-◌, ◌*◌, ◌/◌, ◌%◌, ◌^◌, ◌<◌, ◌≤◌, ltb, sym, ap, ◌∙◌, subst, le_trans, lt_of_lt_of_le, le_antisymm, mul_left_comm, arith, pow_mono}
 use mir.Val.{bool_byte}
 use Rattle.root.specs.Whole.{IsRoot}
 use Rattle.root.proofs.Grow.{grows, same_root, pow_next}

@@ -1,5 +1,5 @@
 -- `root::finite` meets its contract. Assumes nothing.
-use Rattle.std.proofs.Common.{◌≡◌, ℕ, ◌+◌, ◌*◌, ◌/◌, ◌%◌, ◌^◌, ◌<◌, ◌≤◌, sym, ap, ◌∙◌, subst, le_trans, lt_of_lt_of_le, le-mul_of_pos_right, arith, pow_pos, pow_mono, shl_lt, shl_exact, rules}
+use Rattle.std.proofs.Common.{◌≡◌, ℕ, ◌+◌, ◌*◌, ◌/◌, ◌%◌, ◌^◌, ◌<◌, ◌≤◌, sym, ap, ◌∙◌, subst, le_trans, lt_of_lt_of_le, le-mul_of_pos_right, arith, pow_pos, pow_mono, shl_lt, shl_exact}
 use Rattle.root.specs.Whole.{near_root}
 use Rattle.root.proofs.Laws.{near_le}
 use Rattle.root.proofs.finite.Goals as goal

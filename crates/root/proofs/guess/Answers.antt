@@ -1,5 +1,5 @@
 -- `root::guess` meets its contract, which says nothing: no step wraps around by mistake. Assumes nothing.
-use Rattle.std.proofs.Common.{ℕ, ◌/◌, ◌^◌, ◌<◌, ◌≤◌, arith, rules}
+use Rattle.std.proofs.Common.{ℕ, ◌/◌, ◌^◌, ◌<◌, ◌≤◌, arith}
 use lib.Count.{count_leading_zeros, leading_top}
 use Rattle.root.proofs.Widths.{top_below, product_below}
 use Rattle.root.proofs.guess.Goals as goal

@@ -1,5 +1,5 @@
 -- `root::inverse` meets its contract, which says nothing: no step wraps around by mistake. Assumes nothing.
-use Rattle.std.proofs.Common.{arith, rules}
+use Rattle.std.proofs.Common.{arith}
 use Rattle.root.proofs.Widths.{product_below}
 use Rattle.root.proofs.inverse.Goals as goal
 

@@ -1,5 +1,5 @@
 -- `root::product` meets its contract. Assumes nothing.
-use Rattle.std.proofs.Common.{arith, rules}
+use Rattle.std.proofs.Common.{arith}
 use Rattle.root.proofs.Widths.{product_below}
 use Rattle.root.proofs.product.Goals as goal
 

@@ -1,7 +1,7 @@
 -- `root::sqrt` meets its contract. Assumes nothing.
-use Rattle.std.proofs.Common.{◌≡◌, ℕ, ◌+◌, ◌-◌, ◌*◌, ◌/◌, ◌%◌, ◌^◌, ◌<◌, ◌≤◌, T, sym, ap, ◌∙◌, subst, mod-eq_of_lt, arith, rules}
+use Rattle.std.proofs.Common.{◌≡◌, ℕ, ◌+◌, ◌-◌, ◌*◌, ◌/◌, ◌%◌, ◌^◌, ◌<◌, ◌≤◌, T, sym, ap, ◌∙◌, subst, mod-eq_of_lt, arith}
 use lib.Count.{count_leading_zeros}
-use lib.Ieee.{Float, binary64, fits, of_bits, to_bits}
+use lib.Ieee.{Float, binary64, of_bits, to_bits}
 use lib.Ieee.Bits.{of_bits-to_bits, to_bits-lt}
 use Rattle.float.proofs.Nan.{not_nan, nan_made}
 use Rattle.root.specs.Whole.{near_root}

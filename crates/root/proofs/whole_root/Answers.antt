@@ -1,5 +1,5 @@
 -- `root::whole_root` meets its contract: by the tests of the guess, or by the root's digits. Assumes nothing.
-use Rattle.std.proofs.Common.{◌≡◌, ℕ, ◌+◌, ◌-◌, ◌*◌, ◌/◌, ◌^◌, ◌<◌, ◌≤◌, subst, arith, rules}
+use Rattle.std.proofs.Common.{◌≡◌, ℕ, ◌+◌, ◌-◌, ◌*◌, ◌/◌, ◌^◌, ◌<◌, ◌≤◌, subst, arith}
 use Rattle.root.specs.Whole.{IsRoot}
 use Rattle.root.proofs.Grow.{next_square}
 use Rattle.root.proofs.WholeRoots.{is_whole_root}

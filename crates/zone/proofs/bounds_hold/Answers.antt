@@ -1,7 +1,6 @@
 -- `zone::bounds_hold` meets its contract. Assumes nothing.
 use mathlib.Core.Bool.{and_assoc}
 use Rattle.zone.specs.Zone.{bounds_hold}
-use borrow.Author.Rules.{rules}
 use Rattle.zone.proofs.bounds_hold.Goals as goal
 
 pub returns : goal.returns

@@ -1,5 +1,4 @@
 -- `coo3d::UnitVect3::is_finite` meets its contract. Assumes nothing.
-use borrow.Author.Rules.{rules}
 use Rattle.coo3d.proofs.UnitVect3.is_finite.Goals as goal
 
 pub returns : goal.returns

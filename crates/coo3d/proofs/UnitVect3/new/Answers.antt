@@ -1,7 +1,6 @@
 -- `coo3d::UnitVect3::new` meets its contract. Assumes nothing.
 use mathlib.Core.Path.{sym}
 use Rattle.coo3d.specs.Vectors.{unit_of}
-use borrow.Author.Rules.{rules}
 use Rattle.coo3d.proofs.UnitVect3.new.Goals as goal
 
 pub returns-then-is_unit_from_norm : goal.returns-then-is_unit_from_norm

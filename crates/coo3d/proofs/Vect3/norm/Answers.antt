@@ -1,5 +1,4 @@
 -- `coo3d::Vect3::norm` meets its contract. Assumes nothing.
-use borrow.Author.Rules.{rules}
 use Rattle.coo3d.proofs.Vect3.norm.Goals as goal
 
 pub returns : goal.returns

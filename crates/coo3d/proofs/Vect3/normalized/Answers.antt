@@ -1,6 +1,5 @@
 -- `coo3d::Vect3::normalized` meets its contract. Assumes nothing.
 use Rattle.coo3d.specs.Vectors.{normalized_of}
-use borrow.Author.Rules.{rules}
 use Rattle.coo3d.proofs.Vect3.normalized.Goals as goal
 
 pub returns : goal.returns

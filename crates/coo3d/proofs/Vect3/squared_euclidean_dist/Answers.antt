@@ -1,6 +1,5 @@
 -- `coo3d::Vect3::squared_euclidean_dist` meets its contract. Assumes nothing.
 use Rattle.coo3d.specs.Vectors.{squared_norm, squared_dist_of}
-use borrow.Author.Rules.{rules}
 use Rattle.coo3d.proofs.Vect3.squared_euclidean_dist.Goals as goal
 
 pub returns : goal.returns

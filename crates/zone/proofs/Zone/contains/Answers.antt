@@ -1,6 +1,5 @@
 -- `zone::Zone::contains` meets its contract. Assumes nothing.
 use Rattle.zone.specs.Zone.{zone_contains}
-use borrow.Author.Rules.{rules}
 use Rattle.zone.proofs.Zone.contains.Goals as goal
 
 pub returns-then-self : goal.returns-then-self

@@ -4,7 +4,6 @@ use lib.Ieee.{lt, le}
 use Rattle.float.specs.Doubles.{half_open}
 use mathlib.Core.Bool.{Bool, true, false, ◌&&◌, cond}
 use Rattle.zone.specs.Zone.{crossed_horizontally}
-use borrow.Author.Rules.{rules}
 use Rattle.zone.proofs.Zone.crossed_horizontally.Goals as goal
 
 and_cond : (a b : Bool) → (a && b) ≡ cond a b false

@@ -1,7 +1,6 @@
 -- `zone::Zone::new` meets its contract. Assumes nothing.
 use mathlib.Core.Path.{sym}
 use Rattle.zone.specs.Zone.{zone_of}
-use borrow.Author.Rules.{rules}
 use Rattle.zone.proofs.Zone.new.Goals as goal
 
 pub returns-then-bounds_hold : goal.returns-then-bounds_hold
