@@ -9,7 +9,7 @@ use Rattle.domain.proofs.Inside.{each_double, all_doubles}
 use Rattle.lists.proofs.All.{all_set, all_ins, all_del, both}
 use Rattle.refusal.specs.Answer.{Answer, answered, refused}
 use Rattle.region.specs.declared.Region.{Region}
-use Rattle.region.specs.View.{View, view_of}
+use Rattle.region.specs.View.{view_of}
 use Rattle.region.specs.Made.{IsMade}
 use Rattle.region.proofs.Made.{made_good, good_made}
 use Rattle.edits.specs.declared.EditAnswer.{EditAnswer}

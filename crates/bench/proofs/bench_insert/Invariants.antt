@@ -1,6 +1,5 @@
 -- `bench::bench_insert` is safe and ends. Assumes nothing.
 use Prim.Native.Nat.{◌<◌, ◌-◌}
-use borrow.Author.Rules.{rules}
 use Rattle.bench.proofs.bench_insert.Given as goal
 
 abbrev pub invariant-loop-i : goal.invariant-loop-i

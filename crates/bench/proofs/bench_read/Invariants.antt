@@ -1,8 +1,5 @@
 -- `bench::bench_read` is safe and ends. Assumes nothing.
 use Prim.Native.Nat.{◌≤◌, ◌-◌}
-use mathlib.Core.Path.{sym}
-use lib.Seq.{length-take-le}
-use borrow.Author.Rules.{rules}
 use Rattle.bench.proofs.bench_read.Given as goal
 
 abbrev pub invariant-loop-i : goal.invariant-loop-i

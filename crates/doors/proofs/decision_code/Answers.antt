@@ -3,7 +3,6 @@ use mathlib.Core.Path.{sym, ap, ◌∙◌}
 use Rattle.refusal.specs.Answer.{decision_answer}
 use Rattle.refusal.specs.declared.Decision.{Decision}
 use Rattle.doors.specs.Doors.{code_of, in_or_out}
-use borrow.Author.Rules.{rules}
 use Rattle.doors.proofs.decision_code.Goals as goal
 
 pub returns-in-Refused : goal.returns-in-Refused

@@ -2,7 +2,6 @@
 use mathlib.Core.Path.{◌∙◌}
 use Rattle.region.proofs.Answered.{as_answer}
 use Rattle.doors.proofs.Codes.{contains_unread, contains_done}
-use borrow.Author.Rules.{rules}
 use Rattle.doors.proofs.jigwandor_contains.Goals as goal
 
 pub returns-in_default : goal.returns-in_default

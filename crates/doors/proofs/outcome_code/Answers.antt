@@ -1,7 +1,6 @@
 -- `doors::outcome_code` meets its contract. Assumes nothing.
 use mathlib.Core.Path.{sym, ap, ◌∙◌}
 use Rattle.doors.specs.Doors.{outcome_code}
-use borrow.Author.Rules.{rules}
 use Rattle.doors.proofs.outcome_code.Goals as goal
 
 pub returns-in-Refused : goal.returns-in-Refused

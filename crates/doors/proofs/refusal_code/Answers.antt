@@ -1,7 +1,6 @@
 -- `doors::refusal_code` meets its contract. Assumes nothing.
 use native.Mathlib.Omega.{arith}
 use Rattle.refusal.proofs.Table.{number_small}
-use borrow.Author.Rules.{rules}
 use Rattle.doors.proofs.refusal_code.Goals as goal
 
 pub overflow_cast-result : goal.overflow_cast-result
