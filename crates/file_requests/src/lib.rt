@@ -1,4 +1,4 @@
-// Requests about a region file: it is written, read, and asked through the C doors. What is lent is the front of an array, as long as the request
+// Requests about a region file: it is written, read, and asked through the two calls of `doors`. What is lent is the front of an array, as long as the request
 // says.
 #![tactic(auto)]
 
