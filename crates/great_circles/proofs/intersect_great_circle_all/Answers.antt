@@ -10,6 +10,7 @@ use Rattle.domain.proofs.Counts.{count_none, count_many, count_few}
 use Rattle.refusal.specs.Answer.{Answer, answered, refused, and_then}
 use Rattle.region.specs.View.{view_of, nowhere, edges_of}
 use Rattle.region.proofs.Lengths.{unmap}
+use Rattle.region.proofs.Containing.{room}
 use Rattle.region.proofs.Edges.{edges_left, start, turn, done, edges_length}
 use Rattle.crossings.specs.Crossings.{crossings_of, all_of, Lists}
 use Rattle.crossings.proofs.Gather.{Turn, turned, gathered_start, gathered_none, gathered_at, gathered_refused, gathered_done}
@@ -20,10 +21,6 @@ use Rattle.domain.specs.Checks.{vector_answer, vector_at, with_count}
 use Rattle.domain.proofs.Points.{vector_refused}
 use Rattle.great_circles.proofs.intersect_great_circle_all.Goals as goal
 use Rattle.great_circles.proofs.intersect_great_circle_all.Goals.{After-test_finite, In-Vector}
-
--- an array of 64 has the entries that a count takes in
-long : (n m : ℕ) → m ≡ 64 → n ≤ 64 → n ≤ m
-long n m e h = omega arith
 
 module _ {A : Type 0} (count : ℕ) (n : Vect3) (next : Vect3 → Answer A) (some : count ≡ 0 → ⊥) (fits : count ≤ 64) where
   outside : (k : ℕ) (vs : List ℕ) → refused k vs ≡ vector_at 0 n → with_count count (and_then (vector_at 0 n) next) ≡ refused 1 (0 ∷ [])
@@ -46,7 +43,7 @@ here y =
     let e : length r.vertices ≡ 64 = search unmap in
     let d : length r.cross_products ≡ 64 = search unmap in
     let few = y.if-count-gt64.false in
-    turned (turn r _ _ (long _ _ e few) (long _ _ d few) y.loop-i-test.true) y.circle_crossing.ensures y.test_finite.ensures
+    turned (turn r _ _ (room _ _ e few) (room _ _ d few) y.loop-i-test.true) y.circle_crossing.ensures y.test_finite.ensures
 
 pub returns-then-count-eq0 : goal.returns-then-count-eq0
 unfolding circle_all_of
@@ -65,7 +62,7 @@ loop-i-init c =
     let r = c.args.r in
     let few = c.if-count-gt64.false in
     let e : length r.vertices ≡ 64 = search unmap in
-    (omega arith, gathered_start (omega (arith, edges_length r, few)) c.no_points-points.ensures (start r (omega (arith, c.if-count-eq0.false)) (long _ _ e few)))
+    (omega arith, gathered_start (omega (arith, edges_length r, few)) c.no_points-points.ensures (start r (omega (arith, c.if-count-eq0.false)) (room _ _ e few)))
 
 pub returns-in_default-test_finite : goal.returns-in_default-test_finite
 returns-in_default-test_finite c =
@@ -89,4 +86,4 @@ returns c =
     let r = c.args.r in
     let l = c.loop-i in
     let e : length r.vertices ≡ 64 = search unmap in
-    gathered_done l.invariant.1 _ (whole x) (done r l.from l.i (long _ _ e c.if-count-gt64.false) c.loop-i-test.false)
+    gathered_done l.invariant.1 _ (whole x) (done r l.from l.i (room _ _ e c.if-count-gt64.false) c.loop-i-test.false)
