@@ -1,0 +1,5 @@
+-- `coo3d::Vect3::squared_norm` meets its contract. Assumes nothing.
+use Rattle.coo3d.proofs.Vect3.squared_norm.Goals as goal
+
+pub returns : goal.returns
+returns c = c.squared_norm_of.ensures
