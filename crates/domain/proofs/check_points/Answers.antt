@@ -4,8 +4,9 @@ use native.Mathlib.Omega.{arith}
 use mathlib.Core.Path.{◌≡◌, refl, sym, ap, ◌∙◌}
 use borrow.Author.Rules.{rules}
 use lib.ListN.{length, length-set}
+use Rattle.refusal.specs.Answer.{answer_of}
 use Rattle.refusal.proofs.Answers.{not_refused}
-use Rattle.domain.specs.Checks.{point_answer, points_of}
+use Rattle.domain.specs.Checks.{points_of}
 use Rattle.domain.proofs.Points.{far_start, far_good, far_bad, far_end}
 use Rattle.domain.proofs.Counts.{count_none, count_many, count_few}
 use Rattle.domain.proofs.check_points.Goals as goal
@@ -31,7 +32,7 @@ unfolding points_of
 returns-in_default c =
     let s = (goal.at.returns-in_default c).Start in
     let l = c.loop-i in
-    let told = ap point_answer (sym c.in_default.is) ∙ c.check_point.ensures in
+    let told = ap answer_of (sym c.in_default.is) ∙ c.check_point.ensures in
     record {
       answer = sym (far_bad _ _ _ l.out _ (long s (search rules)) (search rules) _ _ told) ∙ l.invariant.1.1 ∙ sym (count_few s.args.count _ (search rules) (search rules));
       kept = λ cause e. refl;
@@ -41,7 +42,7 @@ pub loop-i-preserved : goal.loop-i-preserved
 loop-i-preserved c =
     let s = (goal.at.loop-i-preserved c).Start in
     let l = c.loop-i in
-    let good = sym c.check_point.ensures ∙ ap point_answer c.in-Point.is in (
+    let good = sym c.check_point.ensures ∙ ap answer_of c.in-Ok.is in (
       search rules,
       (
         length-set l.out l.i _ ∙ l.invariant.1.0,
