@@ -8,12 +8,6 @@ use Rattle.domain.specs.Checks.{points_of}
 use Rattle.float.specs.Doubles.{◌⊕◌, ◌⊘◌, nought, max_of}
 use Rattle.refusal.specs.Answer.{Answer, answered, refused_for, refuse_if, and_then}
 use Rattle.cone.specs.declared.Cone.{Cone}
-use Rattle.cone.specs.declared.ConeAnswer.{ConeAnswer}
-use Rattle.cone.specs.declared.ConeAnswer.TheVariants.{Made, Refused}
-
-abbrev pub cone_answer : ConeAnswer → Answer Cone
-cone_answer (Made c) = answered c
-cone_answer (Refused cause) = refused_for cause
 
 -- the sum of the points, from left to right
 unfoldable pub sum_from : Float → Float → Float → List Coo3D → Vect3

@@ -1,10 +1,10 @@
 // Which points and vectors a call takes. Upstream takes any.
 #![tactic(auto)]
 
-ghost use Rattle.std.specs.Prelude.{◌≡◌, not, [], ◌∷◌};
+ghost use Rattle.std.specs.Prelude.{◌≡◌, not, [], ◌∷◌, ◌<◌, ◌≤◌, OnOk};
 ghost use Rattle.refusal.specs.Answer.{answered, refuse_if, answer_of};
 ghost use Rattle.domain.specs.Domain.{in_domain, vector_in_domain};
-ghost use Rattle.domain.specs.Checks.{point_at, vector_at, PointsChecked};
+ghost use Rattle.domain.specs.Checks.{point_at, vector_at, with_count, PointsChecked};
 
 use coo3d::{Coo3D, Vect3};
 use refusal::Cause;
@@ -56,34 +56,41 @@ pub fn check_vector(v: Vect3, index: usize) -> Result<Vect3, Cause>
     if_inside(v, vector_in_domain(v), index)
 }
 
+// The number of a region's corners, or of points.
+pub fn check_count(count: usize) -> Result<(), Cause>
+    ensures answer { answer_of result ≡ with_count count (answered tt) }
+    ensures few { OnOk result ((0 < count) × (count ≤ 64)) }
+{
+    if count == 0 {
+        return Err(Cause::NoPoint);
+    }
+    if count > 64 {
+        return Err(Cause::TooManyPoints);
+    }
+    Ok(())
+}
+
 // The first `count` points, of which there are 1 to 64, each checked and numbered from 0.
 pub fn check_points(points: [Coo3D; 64], count: usize) -> PointsCheck
     ensures { PointsChecked points count result }
 {
-    if count == 0 {
+    if let Err(cause) = check_count(count) {
         return PointsCheck {
             points,
-            outcome: Err(Cause::NoPoint),
-        };
-    }
-    if count > 64 {
-        return PointsCheck {
-            points,
-            outcome: Err(Cause::TooManyPoints),
+            outcome: Err(cause),
         };
     }
     let mut out = points;
-    let mut i: usize = 0;
-    while i < count {
-        let p = points[i];
-        let Ok(q) = check_point(p, i) else {
-            return PointsCheck {
-                points,
-                outcome: Err(Cause::OutsideDomain(i)),
-            };
-        };
-        out[i] = q;
-        i += 1;
+    for i in 0..count {
+        match check_point(points[i], i) {
+            Ok(p) => out[i] = p,
+            Err(cause) => {
+                return PointsCheck {
+                    points,
+                    outcome: Err(cause),
+                };
+            }
+        }
     }
     PointsCheck {
         points: out,

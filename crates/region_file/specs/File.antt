@@ -8,10 +8,6 @@ use Rattle.region.specs.View.{View}
 use Rattle.region.specs.Region.{build_of}
 use Rattle.region_file.specs.Bytes.{number_at, bytes_of, corners_at, corners_bytes}
 use Rattle.region_file.specs.declared.Trailer.{Trailer}
-use Rattle.region_file.specs.declared.TrailerAnswer.{TrailerAnswer}
-use Rattle.region_file.specs.declared.TrailerAnswer.TheVariants as trailer
-use Rattle.region_file.specs.declared.WriteAnswer.{WriteAnswer}
-use Rattle.region_file.specs.declared.WriteAnswer.TheVariants as write
 
 -- a file's length without a maker's own bytes in front, which is the distance back to corner 0
 abbrev pub file_length : ℕ → ℕ
@@ -70,10 +66,3 @@ with_flag_field s flag = left_by (trailer_of s) s (take (length s - 12) s ++ fla
 
 -- ---- the enums' cases
 
-abbrev pub trailer_answer : TrailerAnswer → Answer Trailer
-trailer_answer (trailer.Trailer t) = answered t
-trailer_answer (trailer.Refused cause) = refused_for cause
-
-abbrev pub write_answer : WriteAnswer → Answer ℕ
-write_answer (write.Written n) = answered n
-write_answer (write.Refused cause) = refused_for cause
