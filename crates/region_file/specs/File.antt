@@ -2,7 +2,7 @@
 -- distance from the file's end back to corner 0.
 use Rattle.std.specs.Prelude.{ℕ, ◌+◌, ◌-◌, ◌*◌, Bool, not, cond, List, [], ◌∷◌, ◌++◌, eqb, ltb, length, take, drop}
 use Rattle.domain.specs.Checks.{with_count}
-use Rattle.refusal.specs.Answer.{Answer, answered, refused, refused_for, refuse_if, and_then}
+use Rattle.refusal.specs.Answer.{Answer, answered, refused, refuse_if, and_then}
 use Rattle.region.specs.Poles.{fixed_rule}
 use Rattle.region.specs.View.{View}
 use Rattle.region.specs.Region.{build_of}
@@ -65,4 +65,3 @@ unfoldable pub with_flag_field : List ℕ → Bool → List ℕ
 with_flag_field s flag = left_by (trailer_of s) s (take (length s - 12) s ++ flag_bytes flag ++ drop (length s - 8) s)
 
 -- ---- the enums' cases
-
