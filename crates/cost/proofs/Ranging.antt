@@ -2,38 +2,45 @@
 use Prim.Native.Nat.{ℕ, ◌+◌, ◌-◌, ◌^◌, ◌≤◌, ◌<◌}
 use native.Mathlib.Omega.{arith}
 use mir.Val.{bool_byte}
-use mathlib.Core.Path.{◌≡◌, sym, ap, ◌∙◌}
-use mathlib.Core.Bool.{Bool, cond}
-use mathlib.Core.List.{List}
+use mathlib.Core.Path.{◌≡◌, refl, sym, ap, ◌∙◌}
+use mathlib.Core.Bool.{Bool, true, false, cond}
+use mathlib.Core.List.{List, []}
 use lib.ListN.{length, get_or}
 use Rattle.coo3d.specs.declared.Coo3D.{Coo3D}
-use Rattle.domain.specs.Checks.{point_at}
+use Rattle.domain.specs.Checks.{point_at, with_count}
+use lib.Dec.{eqb, ltb}
 use Rattle.lists.specs.Counts.{exactly_one, odd_many, how_many}
 use Rattle.lists.proofs.Many.{many_turn, many_done}
-use Rattle.refusal.specs.Answer.{answered, refused, answer_of}
+use Rattle.refusal.specs.Answer.{Answer, answered, refused, refuse_if, and_then, answer_of}
 use Rattle.region.specs.declared.Region.{Region}
 use Rattle.region.specs.Edges.{Edge, is_in_range, is_counted}
 use Rattle.region.specs.Region.{contains_of}
 use Rattle.region.specs.View.{View, view_of, nowhere, edges_of, in_range_count, odd_at, contained}
-use Rattle.region.proofs.Containing.{asked_inside, passed, all_passed}
+use Rattle.region.proofs.Containing.{passed, all_passed}
 use Rattle.region.proofs.Edges.{edges_left, edge_at, start, turn, done}
-use Rattle.region.proofs.Held.{held_of, held_edges}
 use Rattle.region.proofs.Seam.{as_number, one_at_most}
 use Rattle.cost.specs.declared.RangedDecision.{RangedDecision}
 use Rattle.cost.specs.RangeCount.{range_count_of, number_or0, Ranged}
 
 -- ---- the answer
 
-pub not_ranged : (a : RangedDecision) (v : View) (p : Coo3D) (k : ℕ) (vs : List ℕ) → contains_of v p ≡ refused k vs → range_count_of v p ≡ refused k vs → (answer_of a.decision ≡ refused k vs) × (a.in_range ≡ 0) → Ranged a v p
-not_ranged a v p k vs e f h = record { decision = h.0 ∙ sym e; in_range = h.1 ∙ ap number_or0 (sym f) }
+-- the tests of count and point, and then whatever is asked
+asked : {A : Type 0} (n : ℕ) (p : Coo3D) (f : Coo3D → Answer A) (y : Answer Coo3D) → y ≡ with_count n (point_at 0 p) → with_count n (and_then (point_at 0 p) f) ≡ and_then y f
+asked n p f y e = through (eqb n 0) (ltb 64 n) ∙ ap (λ (x : Answer Coo3D). and_then x f) (sym e)
+  where
+    through : (none many : Bool) → refuse_if none 2 [] (refuse_if many 3 [] (and_then (point_at 0 p) f)) ≡ and_then (refuse_if none 2 [] (refuse_if many 3 [] (point_at 0 p))) f
+    through true many = refl
+    through false true = refl
+    through false false = refl
 
-pub ranged : (a : RangedDecision) (v : View) (p q : Coo3D) (b : Bool) → (v.count ≡ 0 → ⊥) → v.count ≤ 64 → answered q ≡ point_at 0 p → answer_of a.decision ≡ answered b → (b ≡ contained q v) × (a.in_range ≡ in_range_count q v) → Ranged a v p
-unfolding contains_of range_count_of in_range_count
-ranged a v p q b some few e d h =
-    record {
-      decision = d ∙ ap answered h.0 ∙ sym (asked_inside v.count p (λ x. contained x v) some few q e);
-      in_range = h.1 ∙ ap number_or0 (sym (asked_inside v.count p (λ x. in_range_count x v) some few q e));
-    }
+module _ (a : RangedDecision) (v : View) (p : Coo3D) where
+  pub not_ranged : {k : ℕ} {vs : List ℕ} → refused k vs ≡ with_count v.count (point_at 0 p) → (answer_of a.decision ≡ refused k vs) × (a.in_range ≡ 0) → Ranged a v p
+  unfolding contains_of range_count_of
+  not_ranged e h = record { decision = h.0 ∙ sym (asked v.count p _ _ e); in_range = h.1 ∙ ap number_or0 (sym (asked v.count p _ _ e)) }
+
+  pub ranged : {q : Coo3D} {b : Bool} → answered q ≡ with_count v.count (point_at 0 p) → answer_of a.decision ≡ answered b → (b ≡ contained q v) × (a.in_range ≡ in_range_count q v) → Ranged a v p
+  unfolding contains_of range_count_of in_range_count
+  ranged e d h = record { decision = d ∙ ap answered h.0 ∙ sym (asked v.count p _ _ e); in_range = h.1 ∙ ap number_or0 (sym (asked v.count p _ _ e)) }
 
 -- ---- the loop: the edges before i are passed, `n` of them were in range, and `side` is the flag, turned over at each that was counted
 
@@ -75,13 +82,9 @@ module _ {p : Coo3D} {r : Region} {flag side : Bool} {n i : ℕ} {from : Coo3D} 
       let more = one_at_most there in
       omega (arith, few, more, below, most)
 
-  passing_ends : r.count ≤ i → (side ≡ exactly_one flag (odd_many (is_counted p) (edges_of (view_of r)))) × (n ≡ how_many (is_in_range p) (edges_of (view_of r)))
-  passing_ends over =
-      (all_passed p r side from i long over ∙ inv.sides, sym (many_done (is_in_range p) n) ∙ ap (λ (es : List Edge). n + how_many (is_in_range p) es) (sym (done r from i long over)) ∙ inv.number)
-
--- of a region that the loop took the lists out of
-pub all_ranged : (p : Coo3D) (r : Region) (side : Bool) (n i : ℕ) (from : Coo3D) → Passing p (held_of r) r.contains_south_pole side n from i → r.count ≤ length r.vertices → r.count ≤ i → (side ≡ contained p (view_of r)) × (n ≡ in_range_count p (view_of r))
-unfolding contained odd_at in_range_count
-all_ranged p r side n i from inv long over =
-    let h = passing_ends inv long over in
-    (h.0 ∙ ap (λ (es : List Edge). exactly_one r.contains_south_pole (odd_many (is_counted p) es)) (held_edges r), h.1 ∙ ap (how_many (is_in_range p)) (held_edges r))
+  pub all_ranged : flag ≡ r.contains_south_pole → r.count ≤ i → (side ≡ contained p (view_of r)) × (n ≡ in_range_count p (view_of r))
+  unfolding contained odd_at in_range_count
+  all_ranged e over = (
+    all_passed p r side from i long over ∙ inv.sides ∙ ap (λ (b : Bool). exactly_one b (odd_many (is_counted p) (edges_of (view_of r)))) e,
+    sym (many_done (is_in_range p) n) ∙ ap (λ (es : List Edge). n + how_many (is_in_range p) es) (sym (done r from i long over)) ∙ inv.number,
+  )

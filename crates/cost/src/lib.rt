@@ -1,7 +1,8 @@
 // What containment costs: how many edges are in range at a point, and an outline that has as many as can be. Upstream has neither.
 #![tactic(auto)]
 
-ghost use Rattle.std.specs.Prelude.{◌≡◌};
+ghost use Rattle.std.specs.Prelude.{◌≡◌, ◌<◌, ◌≤◌, OnOk};
+ghost use Rattle.domain.specs.Checks.{point_at, with_count};
 ghost use Rattle.refusal.specs.Answer.{refused_for, answer_of};
 ghost use Rattle.region.specs.View.{view_of};
 ghost use Rattle.cost.specs.RangeCount.{Ranged};
@@ -47,63 +48,56 @@ fn refused(cause: Cause) -> RangedDecision
     }
 }
 
+// The point to be asked of, after the tests of `region::contains`.
+fn checked(count: usize, coo: Coo3D) -> Result<Coo3D, Cause>
+    ensures answer { answer_of result ≡ with_count count (point_at 0 coo) }
+    ensures few { OnOk result ((0 < count) × (count ≤ 64)) }
+{
+    domain::check_count(count)?;
+    domain::check_point(coo, 0)
+}
+
 // `region::contains`, and how many edges were in range.
 pub fn contains_with_range_count(r: Region, coo: Coo3D) -> RangedDecision
     ensures { Ranged result (view_of r) coo }
 {
     let count = r.count;
-    if count == 0 {
-        return refused(Cause::NoPoint);
-    }
-    if 64 < count {
-        return refused(Cause::TooManyPoints);
-    }
-    let Ok(p) = domain::check_point(coo, 0) else {
-        return refused(Cause::OutsideDomain(0));
+    let p = match checked(count, coo) {
+        Ok(p) => p,
+        Err(cause) => return refused(cause),
     };
     let v = p.to_vect3();
     let vertices = r.vertices;
     let normals = r.cross_products;
-    let last = count - 1;
-    let mut from = vertices[last];
+    let mut from = vertices[count - 1];
     let mut is_inside = r.contains_south_pole;
     let mut in_range: usize = 0;
-    let mut i: usize = 0;
-    while i < count {
+    for i in 0..count {
         let to = vertices[i];
         let is_in_range = region::is_in_lon_range(p, from, to);
         in_range += is_in_range as usize;
         if is_in_range {
-            let n = normals[i];
-            is_inside = is_inside != (coo3d::dot_product(v, n) > 0.0);
+            is_inside = is_inside != (coo3d::dot_product(v, normals[i]) > 0.0);
         }
         from = to;
-        i += 1;
     }
-    let decision = Ok(is_inside);
-    RangedDecision { decision, in_range }
+    RangedDecision {
+        decision: Ok(is_inside),
+        in_range,
+    }
 }
 
 // A corner on one of the two meridians, at a latitude of this cosine and sine.
 fn tooth(is_east: bool, lat: f64, c: f64, s: f64) -> Coo3D
     ensures { result ≡ tooth is_east lat c s }
 {
-    if is_east {
-        Coo3D {
-            x: c * -0.5,
-            y: c * SIN_60,
-            z: s,
-            lon: EAST,
-            lat,
-        }
-    } else {
-        Coo3D {
-            x: c * 0.5,
-            y: c * SIN_60,
-            z: s,
-            lon: WEST,
-            lat,
-        }
+    let (cos_lon, lon) = if is_east { (-0.5, EAST) } else { (0.5, WEST) };
+    Coo3D {
+        x: c * cos_lon,
+        y: c * SIN_60,
+        z: s,
+        lon,
+        lat,
     }
 }
 
@@ -122,16 +116,13 @@ fn saw() -> [Coo3D; 64]
     let mut lat = DEGREE;
     let mut c = COS_DEGREE;
     let mut s = SIN_DEGREE;
-    let mut i: usize = 1;
-    while i < 64 {
-        let corner = tooth(is_east, lat, c, s);
-        corners[i] = corner;
+    for i in 1..64 {
+        corners[i] = tooth(is_east, lat, c, s);
         let turned = c * COS_DEGREE - s * SIN_DEGREE;
         s = s * COS_DEGREE + c * SIN_DEGREE;
         c = turned;
         lat = lat + DEGREE;
         is_east = !is_east;
-        i += 1;
     }
     corners
 }

@@ -1,11 +1,6 @@
 -- `cost::contains_with_range_count` meets its contract. Assumes nothing.
-use Prim.Native.Nat.{◌-◌}
-use Rattle.region.proofs.Held.{held}
 use Rattle.cost.proofs.Ranging.{Passing}
 use Rattle.cost.proofs.contains_with_range_count.Given as goal
 
 abbrev pub invariant-loop-i : goal.invariant-loop-i
-invariant-loop-i l = Passing l.p (held l.vertices l.normals l.count) l.initial.is_inside l.is_inside l.in_range l.from l.i
-
-abbrev pub decreases-loop-i : goal.decreases-loop-i
-decreases-loop-i l = l.count - l.i
+invariant-loop-i l = Passing l.p l.fn.r l.initial.is_inside l.is_inside l.in_range l.from l.i

@@ -2,10 +2,10 @@
 use Rattle.cost.specs.Outline.{tooth}
 use Rattle.cost.proofs.tooth.Goals as goal
 
-pub returns-then-is_east : goal.returns-then-is_east
+pub returns : goal.returns
 unfolding tooth
-returns-then-is_east c = rw c.if-is_east.true
-
-pub returns-else-is_east : goal.returns-else-is_east
-unfolding tooth
-returns-else-is_east c = rw c.if-is_east.false
+returns c =
+    elim c.if-is_east.branch [
+      | goal.then-is_east t ↦ rw (t.if-is_east.true, t.cos_lon-is)
+      | goal.else-is_east t ↦ rw (t.if-is_east.false, t.cos_lon-is)
+    ]
