@@ -1,10 +1,8 @@
 -- Answers of the queries: document 01, 'Queries'. An edge gives a crossing or none; a first answer is the first, an all-answer the list.
-use Rattle.std.specs.declared.result.Result.{Result}
-use Rattle.std.specs.declared.result.Result.TheVariants.{Ok, Err}
 use Rattle.std.specs.declared.option.Option.{Option}
 use Rattle.std.specs.declared.option.Option.TheVariants.{None, Some}
 use Rattle.refusal.specs.declared.Cause.{Cause}
-use Rattle.std.specs.Prelude.{◌-◌, ◌≡◌, Bool, true, false, not, ◌&&◌, List, [], ◌∷◌, ◌++◌, length, replicate}
+use Rattle.std.specs.Prelude.{Result, Ok, Err, ◌-◌, ◌≡◌, Bool, true, false, not, ◌&&◌, List, [], ◌∷◌, ◌++◌, length, replicate}
 use Rattle.coo3d.specs.declared.UnitVect3.{UnitVect3}
 use Rattle.coo3d.specs.Vectors.{is_finite_unit}
 use Rattle.float.specs.Doubles.{nought}
@@ -15,7 +13,7 @@ use Rattle.crossings.specs.declared.AllAnswer.{AllAnswer}
 -- a first answer holds no point, or one
 abbrev pub first_answer : Result (Option UnitVect3) Cause → Answer (List UnitVect3)
 first_answer (Ok None) = answered []
-first_answer (FIRSTAT p) = answered (p ∷ [])
+first_answer (Ok (Some p)) = answered (p ∷ [])
 first_answer (Err cause) = refused_for cause
 
 -- ---- the crossings of edges, in edge order

@@ -62,9 +62,5 @@ pub fn test_finite(crossing: Option<UnitVect3>) -> Result<Option<UnitVect3>, Cau
 pub fn is_intersecting(first: Result<Option<UnitVect3>, Cause>) -> Result<bool, Cause>
     ensures { answer_of result ≡ intersecting_of (first_answer first) }
 {
-    match first {
-        Ok(Some(_)) => Ok(true),
-        Ok(None) => Ok(false),
-        Err(cause) => Err(cause),
-    }
+    Ok(first?.is_some())
 }

@@ -158,9 +158,8 @@ pub fn intersect_great_circle_arc(r: Region, a: Coo3D, b: Coo3D) -> Result<Optio
             let ub = coo3d::dot_product(b_vect, n);
             if (ua > 0.0) != (ub > 0.0) {
                 let from = vertices[before];
-                let Ok(c) = crossings::test_finite(point_in_edge(
-                    west, east, from, to, ua, ub,
-                )) else {
+                let Ok(c) = crossings::test_finite(point_in_edge(west, east, from, to, ua, ub))
+                else {
                     return Err(Cause::NotFinite);
                 };
                 match c {
@@ -220,9 +219,8 @@ pub fn intersect_great_circle_arc_all(r: Region, a: Coo3D, b: Coo3D) -> AllAnswe
             let ub = coo3d::dot_product(b_vect, n);
             if (ua > 0.0) != (ub > 0.0) {
                 let from = vertices[before];
-                let Ok(c) = crossings::test_finite(point_in_edge(
-                    west, east, from, to, ua, ub,
-                )) else {
+                let Ok(c) = crossings::test_finite(point_in_edge(west, east, from, to, ua, ub))
+                else {
                     return crossings::refused(Cause::NotFinite);
                 };
                 match c {
@@ -272,8 +270,7 @@ pub fn intersect_great_circle_all(r: Region, n: Vect3) -> AllAnswer
     while i < count {
         let to = r.vertices[i];
         let normal = r.cross_products[i];
-        let Ok(c) = crossings::test_finite(circle_crossing(m, from, to, normal))
-        else {
+        let Ok(c) = crossings::test_finite(circle_crossing(m, from, to, normal)) else {
             return crossings::refused(Cause::NotFinite);
         };
         match c {

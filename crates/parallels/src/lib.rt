@@ -77,7 +77,15 @@ fn either(p: UnitVect3, q: UnitVect3, pa: Coo3D, pb: Coo3D) -> Option<UnitVect3>
 }
 
 // Cases A.1 and A.2, and no real solution: y by an equation of the second degree.
-fn second_degree(pa: Coo3D, pb: Coo3D, n: Vect3, z: f64, two_a: f64, b: f64, delta: f64) -> Option<UnitVect3>
+fn second_degree(
+    pa: Coo3D,
+    pb: Coo3D,
+    n: Vect3,
+    z: f64,
+    two_a: f64,
+    b: f64,
+    delta: f64,
+) -> Option<UnitVect3>
     ensures { result ≡ second_degree pa pb n z two_a b delta }
 {
     if delta > 0.0 {
@@ -159,7 +167,12 @@ fn parallel_crossing(
 }
 
 // The first edge whose latitudes fit decides.
-pub fn intersect_parallel(r: Region, lat: f64, lat_sin: f64, lat_cos: f64) -> Result<Option<UnitVect3>, Cause>
+pub fn intersect_parallel(
+    r: Region,
+    lat: f64,
+    lat_sin: f64,
+    lat_cos: f64,
+) -> Result<Option<UnitVect3>, Cause>
     ensures { first_answer result ≡ parallel_first_of (view_of r) lat lat_sin lat_cos }
 {
     let count = r.count;
@@ -186,9 +199,7 @@ pub fn intersect_parallel(r: Region, lat: f64, lat_sin: f64, lat_cos: f64) -> Re
             let to = vertices[i];
             if spans_lat(from, to, lat) {
                 let n = normals[i];
-                let Ok(c) = crossings::test_finite(point_of(
-                    from, to, n, lat_sin, lat_cos,
-                )) else {
+                let Ok(c) = crossings::test_finite(point_of(from, to, n, lat_sin, lat_cos)) else {
                     return Err(Cause::NotFinite);
                 };
                 let Some(p) = c else {
@@ -253,7 +264,12 @@ pub fn intersect_parallel_all(r: Region, lat: f64, lat_sin: f64, lat_cos: f64) -
     }
 }
 
-pub fn is_intersecting_parallel(r: Region, lat: f64, lat_sin: f64, lat_cos: f64) -> Result<bool, Cause>
+pub fn is_intersecting_parallel(
+    r: Region,
+    lat: f64,
+    lat_sin: f64,
+    lat_cos: f64,
+) -> Result<bool, Cause>
     ensures { answer_of result ≡ is_intersecting_parallel (view_of r) lat lat_sin lat_cos }
 {
     crossings::is_intersecting(intersect_parallel(r, lat, lat_sin, lat_cos))

@@ -65,4 +65,3 @@ unfoldable pub with_flag_field : List ℕ → Bool → List ℕ
 with_flag_field s flag = left_by (trailer_of s) s (take (length s - 12) s ++ flag_bytes flag ++ drop (length s - 8) s)
 
 -- ---- the enums' cases
-
