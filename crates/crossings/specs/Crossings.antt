@@ -1,8 +1,6 @@
 -- Answers of the queries: document 01, 'Queries'. An edge gives a crossing or none; a first answer is the first, an all-answer the list.
-use Rattle.std.specs.declared.option.Option.{Option}
-use Rattle.std.specs.declared.option.Option.TheVariants.{None, Some}
 use Rattle.refusal.specs.declared.Cause.{Cause}
-use Rattle.std.specs.Prelude.{Result, Ok, Err, ◌-◌, ◌≡◌, Bool, true, false, not, ◌&&◌, List, [], ◌∷◌, ◌++◌, length, replicate}
+use Rattle.std.specs.Prelude.{Result, Ok, Err, ◌-◌, ◌≡◌, Bool, true, false, not, ◌&&◌, List, [], ◌∷◌, ◌++◌, length, replicate, Option, Some, None}
 use Rattle.coo3d.specs.declared.UnitVect3.{UnitVect3}
 use Rattle.coo3d.specs.Vectors.{is_finite_unit}
 use Rattle.float.specs.Doubles.{nought}

@@ -1,7 +1,6 @@
 -- The poles explained by the seam count: theorems about every made region, of what `contains` and `seam_count` answer.
-use Rattle.std.specs.declared.result.Result.{Result}
 use Rattle.refusal.specs.declared.Cause.{Cause}
-use Rattle.std.specs.Prelude.{ℕ, ◌≡◌, Bool, true, ◌||◌, cond, Float}
+use Rattle.std.specs.Prelude.{ℕ, ◌≡◌, Bool, true, ◌||◌, cond, Float, Result}
 use Rattle.std.specs.Float.Ieee.{neg, lt, eq}
 use Rattle.float.specs.Doubles.{nought, one}
 use Rattle.coo3d.specs.declared.Coo3D.{Coo3D}
