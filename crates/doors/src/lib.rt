@@ -64,6 +64,6 @@ pub fn jigwandor_hold(file: &mut [u8], x: f64, y: f64, z: f64, lon: f64, lat: f6
         return outcome_code(holding);
     };
     let after = held.region;
-    region_file::set_flag(file, after.contains_south_pole);
+    let _ = region_file::set_flag(file, after.contains_south_pole);
     0
 }

@@ -2,7 +2,7 @@
 -- distance from the file's end back to corner 0.
 use Rattle.std.specs.Prelude.{ℕ, ◌+◌, ◌-◌, ◌*◌, Bool, not, cond, List, [], ◌∷◌, ◌++◌, eqb, ltb, length, take, drop}
 use Rattle.domain.specs.Checks.{with_count}
-use Rattle.refusal.specs.Answer.{Answer, answered, refused, refused_for, refuse_if, and_then}
+use Rattle.refusal.specs.Answer.{Answer, answered, refused, refuse_if, and_then}
 use Rattle.region.specs.Poles.{fixed_rule}
 use Rattle.region.specs.View.{View}
 use Rattle.region.specs.Region.{build_of}

@@ -1,5 +1,5 @@
 -- `cost::contains_with_range_count` meets its contract. Assumes nothing.
-use mathlib.Core.Path.{◌≡◌, sym, ap, ◌∙◌}
+use mathlib.Core.Path.{◌≡◌, refl, sym, ap, ◌∙◌}
 use mathlib.Core.List.{[], ◌∷◌}
 use lib.ListN.{length}
 use borrow.Author.Rules.{rules}
@@ -73,4 +73,4 @@ returns c =
     let some = c.if-count-eq0.false in
     let few = c.if-count-gt64.false in
     let told = ap answer_of (sym c.in-Ok.is) ∙ c.check_point.ensures in
-    ranged _ (view_of r) _ _ _ some few told c.decide-decision.ensures (all_ranged _ r _ _ l.i l.from l.invariant (room _ _ e few) (search rules))
+    ranged _ (view_of r) _ _ _ some few told refl (all_ranged _ r _ _ l.i l.from l.invariant (room _ _ e few) (search rules))

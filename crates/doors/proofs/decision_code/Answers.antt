@@ -1,4 +1,5 @@
 -- `doors::decision_code` meets its contract. Assumes nothing.
+use mathlib.Core.Bool.{Bool}
 use mathlib.Core.Path.{sym, ap, ◌∙◌}
 use Rattle.std.specs.declared.result.Result.{Result}
 use Rattle.refusal.specs.declared.Cause.{Cause}

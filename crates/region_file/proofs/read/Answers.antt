@@ -7,12 +7,12 @@ use Rattle.region_file.specs.File.{trailer_of}
 use Rattle.region_file.proofs.Trailers.{Accepted, accepted}
 use Rattle.region_file.proofs.Reading.{read_refused, read_built}
 use Rattle.region_file.proofs.read.Goals as goal
-use Rattle.region_file.proofs.read.Goals.{In-Trailer}
+use Rattle.region_file.proofs.read.Goals.{In-Ok}
 
-told : (c : In-Trailer) → trailer_of c.args.file.now ≡ answered c.in-Ok.t
+told : (c : In-Ok) → trailer_of c.args.file.now ≡ answered c.in-Ok.t
 told c = sym (ap answer_of (sym c.in-Ok.is) ∙ c.read_trailer.ensures)
 
-known : (c : In-Trailer) → Accepted c.args.file.now c.in-Ok.t
+known : (c : In-Ok) → Accepted c.args.file.now c.in-Ok.t
 known c = accepted _ _ (told c)
 
 pub overflow_mul-count : goal.overflow_mul-count
@@ -31,4 +31,4 @@ pub returns-in-Err : goal.returns-in-Err
 returns-in-Err c = builds_same _ _ _ (read_refused _ _ _ (ap answer_of (sym c.in-Err.is) ∙ c.read_trailer.ensures)) c.refused.ensures
 
 pub returns-in-Ok : goal.returns-in-Ok
-returns-in-Ok c = builds_same _ _ _ (read_built _ _ _ (sym (told (goal.at.returns-in-Ok c).In-Trailer)) c.corners_at-corners.ensures) c.build_flagged.ensures
+returns-in-Ok c = builds_same _ _ _ (read_built _ _ _ (sym (told (goal.at.returns-in-Ok c).In-Ok)) c.corners_at-corners.ensures) c.build_flagged.ensures
