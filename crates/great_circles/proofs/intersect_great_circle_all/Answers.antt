@@ -20,7 +20,7 @@ use Rattle.coo3d.specs.declared.Vect3.{Vect3}
 use Rattle.domain.specs.Checks.{vector_at, with_count}
 use Rattle.domain.proofs.Points.{vector_refused}
 use Rattle.great_circles.proofs.intersect_great_circle_all.Goals as goal
-use Rattle.great_circles.proofs.intersect_great_circle_all.Goals.{After-test_finite, In-Vector}
+use Rattle.great_circles.proofs.intersect_great_circle_all.Goals.{After-test_finite, In-Ok}
 
 module _ {A : Type 0} (count : ℕ) (n : Vect3) (next : Vect3 → Answer A) (some : count ≡ 0 → ⊥) (fits : count ≤ 64) where
   outside : (k : ℕ) (vs : List ℕ) → refused k vs ≡ vector_at 0 n → with_count count (and_then (vector_at 0 n) next) ≡ refused 1 (0 ∷ [])
@@ -30,7 +30,7 @@ module _ {A : Type 0} (count : ℕ) (n : Vect3) (next : Vect3 → Answer A) (som
   inside m e = sym (count_few count _ some fits ∙ rw (sym e))
 
 -- the answer, once the argument is checked
-whole : (x : In-Vector) → all_of (crossings_of (circle_crossing x.in-Ok.m) (edges_of (view_of x.args.r))) ≡ circle_all_of (view_of x.args.r) x.args.n
+whole : (x : In-Ok) → all_of (crossings_of (circle_crossing x.in-Ok.m) (edges_of (view_of x.args.r))) ≡ circle_all_of (view_of x.args.r) x.args.n
 unfolding circle_all_of
 whole x =
     let r = x.args.r in
@@ -67,22 +67,22 @@ loop-i-init c =
 pub returns-in_default-test_finite : goal.returns-in_default-test_finite
 returns-in_default-test_finite c =
     let y = (goal.at.returns-in_default-test_finite c).After-test_finite in
-    let x = (goal.at.returns-in_default-test_finite c).In-Vector in
+    let x = (goal.at.returns-in_default-test_finite c).In-Ok in
     gathered_refused c.loop-i.invariant.1 _ (whole x) (here y) _ c.in_default-test_finite.is _ c.refused-in_default-test_finite.ensures
 
 pub loop-i-preserved : goal.loop-i-preserved
 loop-i-preserved c =
     let y = (goal.at.loop-i-preserved c).After-test_finite in
-    let t = c.in-Crossing.is in
+    let t = c.in-Ok-test_finite.is in
     let g = c.loop-i.invariant.1 in
     elim c.match-c.branch [
-      | goal.in-At w ↦ (search rules, gathered_at (here y) g _ (t ∙ ap Ok w.in-At.is) w.points-is w.len-is)
+      | goal.in-Some w ↦ (search rules, gathered_at (here y) g _ (t ∙ ap Ok w.in-Some.is) w.points-is w.len-is)
       | goal.in-None w ↦ (search rules, gathered_none (here y) g (t ∙ ap Ok w.in-None.is) w.points-is w.len-is)
     ]
 
 pub returns : goal.returns
 returns c =
-    let x = (goal.at.returns c).In-Vector in
+    let x = (goal.at.returns c).In-Ok in
     let r = c.args.r in
     let l = c.loop-i in
     let e : length r.vertices ≡ 64 = search unmap in

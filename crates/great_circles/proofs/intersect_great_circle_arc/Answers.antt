@@ -123,12 +123,12 @@ returns-in_default-test_finite c =
     let x = (goal.at.returns-in_default-test_finite c).After-to_vect3-b_vect in
     sym (first_refused (hit z) (edge z) (rest z) 6 [] (tested_refused (hit z (edge z)) _ _ (ap answer_of (sym c.in_default-test_finite.is) ∙ told y))) ∙ left z ∙ whole x
 
-pub returns-in-At : goal.returns-in-At
-returns-in-At c =
-    let y = (goal.at.returns-in-At c).After-test_finite in
-    let z = (goal.at.returns-in-At c).After-are_overlapping_in_lon in
-    let x = (goal.at.returns-in-At c).After-to_vect3-b_vect in
-    let e = sym (told y) ∙ ap answer_of c.in-Crossing.is ∙ ap answered c.in-At.is in
+pub returns-in-Some : goal.returns-in-Some
+returns-in-Some c =
+    let y = (goal.at.returns-in-Some c).After-test_finite in
+    let z = (goal.at.returns-in-Some c).After-are_overlapping_in_lon in
+    let x = (goal.at.returns-in-Some c).After-to_vect3-b_vect in
+    let e = sym (told y) ∙ ap answer_of c.in-Ok-test_finite.is ∙ ap answered c.in-Some.is in
     sym (first_found (hit z) (edge z) (rest z) _ e) ∙ left z ∙ whole x
 
 pub loop-i-preserved : goal.loop-i-preserved
@@ -136,7 +136,7 @@ loop-i-preserved c =
     let z = (goal.at.loop-i-preserved c).After-are_overlapping_in_lon in
     let on = stands_next z.loop-i.invariant.0 z.loop-i-test.true in
     elim c.if-are_overlapping_in_lon.branch [
-      | goal.then-are_overlapping_in_lon+then-ua-ub+in-Crossing+in-None w ↦ (on, passed z (sym (ap tested_of (crossed (numbers z) w.dot_product-ua.ensures w.dot_product-ub.ensures w.if-are_overlapping_in_lon.true w.if-ua-ub.true w.point_in_edge.ensures)) ∙ sym w.test_finite.ensures ∙ ap answer_of w.in-Crossing.is ∙ ap answered w.in-None.is))
+      | goal.then-are_overlapping_in_lon+then-ua-ub+in-Ok-test_finite+in-None w ↦ (on, passed z (sym (ap tested_of (crossed (numbers z) w.dot_product-ua.ensures w.dot_product-ub.ensures w.if-are_overlapping_in_lon.true w.if-ua-ub.true w.point_in_edge.ensures)) ∙ sym w.test_finite.ensures ∙ ap answer_of w.in-Ok-test_finite.is ∙ ap answered w.in-None.is))
       | goal.then-are_overlapping_in_lon+else-ua-ub w ↦ (on, passed z (sym (ap tested_of (one_side (numbers z) w.dot_product-ua.ensures w.dot_product-ub.ensures w.if-are_overlapping_in_lon.true w.if-ua-ub.false))))
       | goal.else-are_overlapping_in_lon w ↦ (on, passed z (sym (ap tested_of (apart (numbers z) w.if-are_overlapping_in_lon.false))))
     ]

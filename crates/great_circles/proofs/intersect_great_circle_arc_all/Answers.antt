@@ -144,10 +144,10 @@ loop-i-preserved c =
     let g = c.loop-i.invariant.1 in
     let next = stands_next c.loop-i.invariant.0 c.loop-i-test.true in
     elim c.if-are_overlapping_in_lon.branch [
-      | goal.then-are_overlapping_in_lon+then-ua-ub+in-Crossing+in-At w ↦
-          (next, gathered_at (here z (crossed (numbers z) w.dot_product-ua.ensures w.dot_product-ub.ensures w.if-are_overlapping_in_lon.true w.if-ua-ub.true w.point_in_edge.ensures) w.test_finite.ensures) g _ (w.in-Crossing.is ∙ ap Ok w.in-At.is) w.points-is w.len-is)
-      | goal.then-are_overlapping_in_lon+then-ua-ub+in-Crossing+in-None w ↦
-          (next, gathered_none (here z (crossed (numbers z) w.dot_product-ua.ensures w.dot_product-ub.ensures w.if-are_overlapping_in_lon.true w.if-ua-ub.true w.point_in_edge.ensures) w.test_finite.ensures) g (w.in-Crossing.is ∙ ap Ok w.in-None.is) w.points-is w.len-is)
+      | goal.then-are_overlapping_in_lon+then-ua-ub+in-Ok-test_finite+in-Some w ↦
+          (next, gathered_at (here z (crossed (numbers z) w.dot_product-ua.ensures w.dot_product-ub.ensures w.if-are_overlapping_in_lon.true w.if-ua-ub.true w.point_in_edge.ensures) w.test_finite.ensures) g _ (w.in-Ok-test_finite.is ∙ ap Ok w.in-Some.is) w.points-is w.len-is)
+      | goal.then-are_overlapping_in_lon+then-ua-ub+in-Ok-test_finite+in-None w ↦
+          (next, gathered_none (here z (crossed (numbers z) w.dot_product-ua.ensures w.dot_product-ub.ensures w.if-are_overlapping_in_lon.true w.if-ua-ub.true w.point_in_edge.ensures) w.test_finite.ensures) g (w.in-Ok-test_finite.is ∙ ap Ok w.in-None.is) w.points-is w.len-is)
       | goal.then-are_overlapping_in_lon+else-ua-ub w ↦
           (next, gathered_none (no_crossing z (one_side (numbers z) w.dot_product-ua.ensures w.dot_product-ub.ensures w.if-are_overlapping_in_lon.true w.if-ua-ub.false)) g refl w.points-is w.len-is)
       | goal.else-are_overlapping_in_lon w ↦ (next, gathered_none (no_crossing z (apart (numbers z) w.if-are_overlapping_in_lon.false)) g refl w.points-is w.len-is)

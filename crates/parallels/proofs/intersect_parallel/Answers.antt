@@ -83,10 +83,10 @@ met : (c : After-test_finite) (d : Option UnitVect3)
 met c d e = only_passed c.point_of.result d (ap answer_of (sym e) ∙ c.test_finite.ensures) ∙ fit c.before
 
 pub returns-in_default-c : goal.returns-in_default-c
-returns-in_default-c c = ap (λ (d : Option UnitVect3). answered (listed d)) (sym c.in_default-c.is) ∙ met (goal.at.returns-in_default-c c).After-test_finite _ c.in-Crossing.is
+returns-in_default-c c = ap (λ (d : Option UnitVect3). answered (listed d)) (sym c.in_default-c.is) ∙ met (goal.at.returns-in_default-c c).After-test_finite _ c.in-Ok.is
 
 pub returns-then-spans_lat : goal.returns-then-spans_lat
-returns-then-spans_lat c = ap (λ (d : Option UnitVect3). answered (listed d)) (sym c.in-At.is) ∙ met (goal.at.returns-then-spans_lat c).After-test_finite _ c.in-Crossing.is
+returns-then-spans_lat c = ap (λ (d : Option UnitVect3). answered (listed d)) (sym c.in-Some.is) ∙ met (goal.at.returns-then-spans_lat c).After-test_finite _ c.in-Ok.is
 
 -- an edge that does not fit is passed
 pass : (c : At-loop-i)

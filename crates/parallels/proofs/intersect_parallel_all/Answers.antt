@@ -87,10 +87,10 @@ loop-i-preserved c =
     let x = (goal.at.loop-i-preserved c).At-loop-i in
     let g = x.loop-i.invariant.3 in
     elim c.if-from_below-to_below.branch [
-      | goal.then-from_below-to_below+in-Crossing+in-At w ↦
-          (search rules, search rules, w.from_below-is, gathered_at (here x (search rules) w.parallel_crossing.ensures w.test_finite.ensures) g _ (w.in-Crossing.is ∙ ap Ok w.in-At.is) w.points-is w.len-is)
-      | goal.then-from_below-to_below+in-Crossing+in-None w ↦
-          (search rules, search rules, w.from_below-is, gathered_none (here x (search rules) w.parallel_crossing.ensures w.test_finite.ensures) g (w.in-Crossing.is ∙ ap Ok w.in-None.is) w.points-is w.len-is)
+      | goal.then-from_below-to_below+in-Ok+in-Some w ↦
+          (search rules, search rules, w.from_below-is, gathered_at (here x (search rules) w.parallel_crossing.ensures w.test_finite.ensures) g _ (w.in-Ok.is ∙ ap Ok w.in-Some.is) w.points-is w.len-is)
+      | goal.then-from_below-to_below+in-Ok+in-None w ↦
+          (search rules, search rules, w.from_below-is, gathered_none (here x (search rules) w.parallel_crossing.ensures w.test_finite.ensures) g (w.in-Ok.is ∙ ap Ok w.in-None.is) w.points-is w.len-is)
       | goal.else-from_below-to_below w ↦
           let same = alike _ _ w.if-from_below-to_below.false in
           (search rules, search rules, w.from_below-is ∙ same, gathered_none (here x (search rules) (not_crossed _ _ _ _ (one_side _ _ _ (sym x.loop-i.invariant.2 ∙ same))) refl) g refl w.points-is w.len-is)
