@@ -14,7 +14,7 @@ use coo3d::Coo3D;
 use refusal::Cause;
 use region::{ContainsSouthPoleMethod, Region};
 
-// The region beside the outcome. A refusal leaves the region as it was.
+// The region beside the outcome. A refusal hands it back as it was, and an enum round it would cost one more copy of its 4 KB.
 #[derive(Clone, Copy)]
 pub struct EditAnswer {
     pub region: Region,
@@ -292,41 +292,18 @@ pub fn turn(r: Region) -> EditAnswer
     with_flag(r, !r.contains_south_pole)
 }
 
-// A flag beside an outcome.
-#[derive(Clone, Copy)]
-struct Flag {
-    flag: bool,
-    outcome: Result<(), Cause>,
-}
-
-// The flag that a decision sets; a refusal keeps the old one.
-fn flag_by(d: Result<bool, Cause>, yes: bool, no: bool, old: bool) -> Flag
-    ensures { (outcome_of result.outcome result.flag ≡ and_then (answer_of d) (λ b. answered (cond b yes no))) × ((cause : Cause) → result.outcome ≡ Err cause → result.flag ≡ old) }
+// The region with the flag, where there is one. Its one copy is made where both cases have met.
+fn flagged(r: Region, flag: Result<bool, Cause>) -> EditAnswer
+    ensures { (outcome_of result.outcome (view_of result.region) ≡ and_then (answer_of flag) (λ b. answered (with_flag (view_of r) b))) × ((cause : Cause) → result.outcome ≡ Err cause → result.region ≡ r) }
 {
-    match d {
-        Ok(true) => Flag {
-            flag: yes,
-            outcome: Ok(()),
-        },
-        Ok(false) => Flag {
-            flag: no,
-            outcome: Ok(()),
-        },
-        Err(cause) => Flag {
-            flag: old,
-            outcome: Err(cause),
-        },
-    }
-}
-
-// The region with the flag that a decision sets. Its one copy is made where all cases have met.
-fn flagged(r: Region, d: Result<bool, Cause>, yes: bool, no: bool) -> EditAnswer
-    ensures { (outcome_of result.outcome (view_of result.region) ≡ and_then (answer_of d) (λ b. answered (with_flag (view_of r) (cond b yes no)))) × ((cause : Cause) → result.outcome ≡ Err cause → result.region ≡ r) }
-{
-    let by = flag_by(d, yes, no, r.contains_south_pole);
-    let outcome = by.outcome;
     let mut region = r;
-    region.contains_south_pole = by.flag;
+    let outcome = match flag {
+        Ok(is_set) => {
+            region.contains_south_pole = is_set;
+            Ok(())
+        }
+        Err(cause) => Err(cause),
+    };
     EditAnswer { region, outcome }
 }
 
@@ -335,7 +312,10 @@ pub fn hold(r: Region, coo: Coo3D) -> EditAnswer
     ensures { Edited (edit.hold coo) r result }
 {
     let flag = r.contains_south_pole;
-    flagged(r, region::contains(r, coo), flag, !flag)
+    flagged(
+        r,
+        region::contains(r, coo).map(|is_inside| if is_inside { flag } else { !flag }),
+    )
 }
 
 // The same on a lent region, which a refusal leaves as it was.
@@ -351,5 +331,5 @@ pub fn hold_lent(r: &mut Region, coo: Coo3D) -> Result<(), Cause>
 pub fn rule(r: Region, method: ContainsSouthPoleMethod) -> EditAnswer
     ensures { Edited (edit.rule method) r result }
 {
-    flagged(r, region::contains_south_pole(r, method), true, false)
+    flagged(r, region::contains_south_pole(r, method))
 }
