@@ -2,9 +2,8 @@
 use mathlib.Core.Path.{◌≡◌, refl, sym, ◌∙◌}
 use mathlib.Core.Bool.{true, false, not, true≢false}
 use lib.Dec.{T}
-use lib.Ieee.{Float, nan, inf, fin, is_nan, of_bits, ne, div}
+use lib.Ieee.{Float, nan, inf, fin, binary64, is_nan, of_bits, ne}
 use lib.Ieee.Compare.{nan_differs}
-use Rattle.float.specs.Doubles.{nought, ◌⊘◌}
 
 pub is_nan_lem : (x : Float) → is_nan x ≡ true → x ≡ nan
 unfolding is_nan
@@ -19,7 +18,7 @@ not_nan nan h = absurd (true≢false (sym nan_differs ∙ h))
 not_nan (inf s) h = tt
 not_nan (fin s m e) h = tt
 
--- 0 / 0
-pub nan_made : nought ⊘ nought ≡ nan
-unfolding div of_bits
-nan_made = refl
+-- the pattern of `f64::NAN`
+pub nan_read : of_bits binary64 0x7FF8_0000_0000_0000 ≡ nan
+unfolding of_bits
+nan_read = refl
