@@ -270,24 +270,18 @@ pub fn sqrt(a: f64) -> f64
     f64::from_bits(finite(m, 63 - z, m + (63 - z) * 0x10_0000_0000_0000))
 }
 
-// The roots of 16 k and the 15 numbers after it, k below 16, four bits each.
-const ROOTS: [u64; 16] = [
-    0x3333_3332_2222_1110,
-    0x5555_5554_4444_4444,
-    0x6666_6666_6666_5555,
-    0x7777_7777_7777_7776,
-    0x8888_8888_8888_8888,
-    0x9999_9999_9999_9998,
-    0xaaaa_aaaa_aaaa_9999,
-    0xbbbb_bbba_aaaa_aaaa,
-    0xbbbb_bbbb_bbbb_bbbb,
-    0xcccc_cccc_cccc_cccc,
-    0xdddd_dddc_cccc_cccc,
-    0xdddd_dddd_dddd_dddd,
-    0xeeee_eeee_eeee_dddd,
-    0xeeee_eeee_eeee_eeee,
-    0xffff_ffff_ffff_fffe,
-    0xffff_ffff_ffff_ffff,
+// The roots of the numbers below 256.
+const ROOTS: [u8; 256] = [
+    0, 1, 1, 1, 2, 2, 2, 2, 2, 3, 3, 3, 3, 3, 3, 3, 4, 4, 4, 4, 4, 4, 4, 4, 4, 5, 5, 5, 5, 5, 5, 5,
+    5, 5, 5, 5, 6, 6, 6, 6, 6, 6, 6, 6, 6, 6, 6, 6, 6, 7, 7, 7, 7, 7, 7, 7, 7, 7, 7, 7, 7, 7, 7, 7,
+    8, 8, 8, 8, 8, 8, 8, 8, 8, 8, 8, 8, 8, 8, 8, 8, 8, 9, 9, 9, 9, 9, 9, 9, 9, 9, 9, 9, 9, 9, 9, 9,
+    9, 9, 9, 9, 10, 10, 10, 10, 10, 10, 10, 10, 10, 10, 10, 10, 10, 10, 10, 10, 10, 10, 10, 10, 10,
+    11, 11, 11, 11, 11, 11, 11, 11, 11, 11, 11, 11, 11, 11, 11, 11, 11, 11, 11, 11, 11, 11, 11, 12,
+    12, 12, 12, 12, 12, 12, 12, 12, 12, 12, 12, 12, 12, 12, 12, 12, 12, 12, 12, 12, 12, 12, 12, 12,
+    13, 13, 13, 13, 13, 13, 13, 13, 13, 13, 13, 13, 13, 13, 13, 13, 13, 13, 13, 13, 13, 13, 13, 13,
+    13, 13, 13, 14, 14, 14, 14, 14, 14, 14, 14, 14, 14, 14, 14, 14, 14, 14, 14, 14, 14, 14, 14, 14,
+    14, 14, 14, 14, 14, 14, 14, 14, 15, 15, 15, 15, 15, 15, 15, 15, 15, 15, 15, 15, 15, 15, 15, 15,
+    15, 15, 15, 15, 15, 15, 15, 15, 15, 15, 15, 15, 15, 15, 15,
 ];
 
 // Near 2 ^ 32 times the inverse of the root of x, a curve for each 16th of x from 1 to 4, in units of 2 ^ 11: where it starts, in the first digits; in five its
@@ -346,7 +340,7 @@ const CURVES: [u64; 48] = [
 // The whole root of n, or one less. Nothing is proved of it: `whole_root` tests it.
 fn guess(n: u64) -> u32 {
     if n < 256 {
-        return ((ROOTS[(n / 16) as usize] >> (n % 16 * 4)) % 16) as u32;
+        return ROOTS[n as usize] as u32;
     }
     // One more than n has. Those of n itself, of which the compiler knows that it is not 0, it would count on x86-64 with an instruction that waits for the last value
     // of its register.

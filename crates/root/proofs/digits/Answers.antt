@@ -55,9 +55,6 @@ few_digits c = omega arith
 start : (n : ℕ) → n < 2 ^ 64 → State n 0 0 n 0
 start n l = record { short = omega arith; rooted = record { square = omega arith; small = omega arith }; rest = omega arith }
 
-pub loop-init : goal.loop-init
-loop-init c = start c.args.n (omega arith)
-
 pub overflow_mul-t : goal.overflow_mul-t
 overflow_mul-t c = record { fits = omega (arith, wide (few_digits c) c.loop.invariant) }
 
@@ -75,15 +72,6 @@ overflow_add-left c = record { fits = omega (arith, low (few_digits c) c.loop.in
 
 pub overflow_mul-left-in-loop : goal.overflow_mul-left-in-loop
 overflow_mul-left-in-loop c = record { fits = omega (arith, within (few_digits c) c.loop.invariant, wide (few_digits c) c.loop.invariant) }
-
-pub overflow_sub-left : goal.overflow_sub-left
-overflow_sub-left c = within (few_digits c) c.loop.invariant
-
-pub overflow_mul-root : goal.overflow_mul-root
-overflow_mul-root c = record { fits = omega (arith, low (few_digits c) c.loop.invariant) }
-
-pub overflow_add-root : goal.overflow_add-root
-overflow_add-root c = record { fits = omega (arith, longer (few_digits c) c.loop.invariant, pow_mono (few_digits c)) }
 
 pub loop-preserved : goal.loop-preserved
 loop-preserved c = again (few_digits c) c.loop.invariant

@@ -31,20 +31,9 @@ highest n z j e p g l = omega (arith, long, exact)
 at : (c : Else-n-lt256) → (1 ≤ count_leading_zeros 64 (c.args.n / 2)) × (count_leading_zeros 64 (c.args.n / 2) ≤ 63)
 at c = zeros c.args.n (omega arith) (omega arith)
 
-pub overflow_cast-zeros : goal.overflow_cast-zeros
-overflow_cast-zeros c = record { fits = omega (arith, at c) }
-
 pub overflow_sub-up : goal.overflow_sub-up
 overflow_sub-up c = (at c).0
-
-pub overflow_mul-m : goal.overflow_mul-m
-overflow_mul-m c = record { fits = omega (arith, at c) }
-
-pub overflow_shl-m : goal.overflow_shl-m
-overflow_shl-m c = omega (arith, at c)
 
 pub overflow_sub-c : goal.overflow_sub-c
 overflow_sub-c c = let t = leading_top 64 (c.args.n / 2) (omega arith) (omega arith) in highest c.args.n _ t.0 t.1 (zeros c.args.n (omega arith) (omega arith)).0 t.2 t.3
 
-pub overflow_shr-result-2 : goal.overflow_shr-result-2
-overflow_shr-result-2 c = omega (arith, at (goal.at.overflow_shr-result-2 c).Else-n-lt256)

@@ -77,20 +77,8 @@ returns-then-b-ge9218868437227405312 c =
 whole : {m : ℕ} → m < 2 ^ 53 → m % 2 ^ 64 ≡ m
 whole h = mod-eq_of_lt (omega arith)
 
-pub overflow_cast-z : goal.overflow_cast-z
-overflow_cast-z c = let h = low c in record { fits = omega (arith, h.high) }
-
 pub overflow_sub-m : goal.overflow_sub-m
 overflow_sub-m c = (low c).low
-
-pub overflow_shl-m : goal.overflow_shl-m
-overflow_shl-m c = omega (arith, (low c).high)
-
-pub overflow_sub-z : goal.overflow_sub-z
-overflow_sub-z c = (low c).high
-
-pub overflow_sub-z-2 : goal.overflow_sub-z-2
-overflow_sub-z-2 c = (low c).high
 
 pub overflow_add-m : goal.overflow_add-m
 overflow_add-m c = record { fits = omega (arith, whole (low c).short, (low c).short) }
