@@ -46,22 +46,16 @@ pub fn within_half_open(low: f64, x: f64, high: f64) -> bool
     (low <= x) & (x < high)
 }
 
-// The double of a bit pattern: every NaN pattern is a NaN. `f64::from_bits` takes none.
+// The double of a bit pattern: every NaN pattern is a NaN.
 pub fn from_bits(bits: u64) -> f64
     ensures { result ≡ of_bits binary64 bits }
 {
-    if bits % 0x8000_0000_0000_0000 > 0x7ff0_0000_0000_0000 {
-        return f64::NAN;
-    }
-    f64::from_bits(bits)
+    std::num::f64_from_bits_with_nan(bits)
 }
 
-// The bit pattern of a double: a NaN is 7FF8000000000000. `f64::to_bits` takes none.
+// The bit pattern of a double: a NaN is 7FF8000000000000.
 pub fn to_bits(x: f64) -> u64
     ensures { result ≡ to_bits binary64 x }
 {
-    if x.is_nan() {
-        return 0x7ff8_0000_0000_0000;
-    }
-    f64::to_bits(x)
+    std::num::f64_to_bits_with_nan(x)
 }

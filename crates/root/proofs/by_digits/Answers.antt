@@ -1,7 +1,7 @@
 -- `root::by_digits` meets its contract. Assumes nothing.
-use Rattle.std.proofs.Common.{◌≡◌, ℕ, ◌+◌, ◌*◌, ◌/◌, ◌^◌, ◌<◌, subst, arith}
+use Rattle.std.proofs.Common.{◌≡◌, ℕ, ◌*◌, ◌/◌, ◌^◌, ◌<◌, subst, arith}
 use Rattle.root.specs.Whole.{IsRoot}
-use Rattle.root.proofs.Laws.{nearest_is, root_short}
+use Rattle.root.proofs.Laws.{nearest_is}
 use Rattle.root.proofs.by_digits.Goals as goal
 
 -- the root of 54 digits
