@@ -99,13 +99,11 @@ fn basic(vertices: [Coo3D; 64], count: usize) -> bool
     let mut from = vertices[last];
     let mut sum_delta_lon = 0.0;
     let mut gravity_center_z = 0.0;
-    let mut i: usize = 0;
-    while i < count {
+    for i in 0..count {
         let to = vertices[i];
         sum_delta_lon = add_step(sum_delta_lon, to.lon - from.lon);
         gravity_center_z = gravity_center_z + to.z;
         from = to;
-        i += 1;
     }
     (float::abs(sum_delta_lon) > float::PI) & (gravity_center_z < 0.0)
 }
@@ -116,41 +114,25 @@ pub fn contains(r: Region, coo: Coo3D) -> Result<bool, Cause>
     ensures { answer_of result ≡ contains_of (view_of r) coo }
 {
     let count = r.count;
-    if count == 0 {
-        return Err(Cause::NoPoint);
-    }
-    if 64 < count {
-        return Err(Cause::TooManyPoints);
-    }
-    let Ok(p) = domain::check_point(coo, 0) else {
-        return Err(Cause::OutsideDomain(0));
-    };
+    domain::check_count(count)?;
+    let p = domain::check_point(coo, 0)?;
     let mut is_inside = r.contains_south_pole;
     let vertices = r.vertices;
-    let last = count - 1;
-    let mut from = vertices[last];
-    let mut i: usize = 0;
-    while i < count {
-        let to = vertices[i];
-        if is_in_lon_range(p, from, to) {
-            break;
+    let mut from = vertices[count - 1];
+    for first in 0..count {
+        if is_in_lon_range(p, from, vertices[first]) {
+            let v = p.to_vect3();
+            let normals = r.cross_products;
+            for i in first..count {
+                let to = vertices[i];
+                if is_in_lon_range(p, from, to) {
+                    is_inside = is_inside != (coo3d::dot_product(v, normals[i]) > 0.0);
+                }
+                from = to;
+            }
+            return Ok(is_inside);
         }
-        from = to;
-        i += 1;
-    }
-    if i == count {
-        return Ok(is_inside);
-    }
-    let v = p.to_vect3();
-    let normals = r.cross_products;
-    while i < count {
-        let to = vertices[i];
-        if is_in_lon_range(p, from, to) {
-            let n = normals[i];
-            is_inside = is_inside != (coo3d::dot_product(v, n) > 0.0);
-        }
-        from = to;
-        i += 1;
+        from = vertices[first];
     }
     Ok(is_inside)
 }
@@ -159,13 +141,7 @@ pub fn contains(r: Region, coo: Coo3D) -> Result<bool, Cause>
 pub fn seam_count(r: Region) -> Result<usize, Cause>
     ensures { answer_of result ≡ seam_count_of (view_of r) }
 {
-    let count = r.count;
-    if count == 0 {
-        return Err(Cause::NoPoint);
-    }
-    if count > 64 {
-        return Err(Cause::TooManyPoints);
-    }
+    domain::check_count(r.count)?;
     Ok(r.seam_count)
 }
 
@@ -182,15 +158,11 @@ pub fn check_rule(
         ContainsSouthPoleMethod::ContainsSouthPole => Ok(method),
         ContainsSouthPoleMethod::DoNotContainsSouthPole => Ok(method),
         ContainsSouthPoleMethod::ControlPointIn(p) => {
-            let Ok(q) = domain::check_point(p, index) else {
-                return Err(Cause::OutsideDomain(index));
-            };
+            let q = domain::check_point(p, index)?;
             Ok(ContainsSouthPoleMethod::ControlPointIn(q))
         }
         ContainsSouthPoleMethod::ControlPointOut(p) => {
-            let Ok(q) = domain::check_point(p, index) else {
-                return Err(Cause::OutsideDomain(index));
-            };
+            let q = domain::check_point(p, index)?;
             Ok(ContainsSouthPoleMethod::ControlPointOut(q))
         }
     }
@@ -228,17 +200,10 @@ fn flag_by_rule(r: Region, rule: ContainsSouthPoleMethod) -> bool
 pub fn contains_south_pole(r: Region, method: ContainsSouthPoleMethod) -> Result<bool, Cause>
     ensures { answer_of result ≡ flag_of (view_of r) method }
 {
-    let count = r.count;
-    if count == 0 {
-        return Err(Cause::NoPoint);
-    }
-    if count > 64 {
-        return Err(Cause::TooManyPoints);
-    }
-    match check_rule(method, count) {
-        Err(cause) => Err(cause),
-        Ok(rule) => Ok(flag_by_rule(r, rule)),
-    }
+    let corners = r.count;
+    domain::check_count(corners)?;
+    let rule = check_rule(method, corners)?;
+    Ok(flag_by_rule(r, rule))
 }
 
 // No corner, and a clear flag.
@@ -269,11 +234,8 @@ pub fn refused(cause: Cause) -> Built
 pub fn build_flagged(points: [Coo3D; 64], count: usize, flag: bool) -> Built
     ensures { Builds result (build_of points count (fixed_rule flag)) }
 {
-    if count == 0 {
-        return refused(Cause::NoPoint);
-    }
-    if count > 64 {
-        return refused(Cause::TooManyPoints);
+    if let Err(cause) = domain::check_count(count) {
+        return refused(cause);
     }
     let mut region = Region {
         vertices: points,
@@ -282,27 +244,21 @@ pub fn build_flagged(points: [Coo3D; 64], count: usize, flag: bool) -> Built
         contains_south_pole: flag,
         seam_count: 0,
     };
-    let mut i: usize = 0;
-    while i < count {
+    for i in 0..count {
         let p = region.vertices[i];
         match domain::check_point(p, i) {
             Ok(q) => region.vertices[i] = q,
             Err(cause) => return refused(cause),
         }
-        i += 1;
     }
     let last = count - 1;
     let mut from = region.vertices[last];
     let mut seam_count: usize = 0;
-    let mut k: usize = 0;
-    while k < count {
+    for k in 0..count {
         let to = region.vertices[k];
-        let n = edge_normal(from, to);
-        region.cross_products[k] = n;
-        let crosses = crosses_seam(from, to);
-        seam_count += crosses as usize;
+        region.cross_products[k] = edge_normal(from, to);
+        seam_count += crosses_seam(from, to) as usize;
         from = to;
-        k += 1;
     }
     region.seam_count = seam_count;
     Built {
@@ -321,14 +277,11 @@ pub fn build(points: [Coo3D; 64], count: usize, method: ContainsSouthPoleMethod)
         return built;
     };
     match check_rule(method, built.region.count) {
-        Err(cause) => {
-            return refused(cause);
-        }
+        Err(cause) => refused(cause),
         Ok(rule) => {
-            let region = built.region;
-            let flag = flag_by_rule(region, rule);
+            let flag = flag_by_rule(built.region, rule);
             built.region.contains_south_pole = flag;
+            built
         }
     }
-    built
 }
