@@ -2,10 +2,11 @@
 #![tactic(auto)]
 
 ghost use Rattle.std.specs.Prelude.{◌≡◌, false, ◌≤◌, ◌<◌, take};
+ghost use Rattle.std.specs.Iterator.{YieldsFirst, item_count};
 ghost use Rattle.refusal.specs.Answer.{answered, refused_for, answer_of};
 ghost use Rattle.domain.specs.Checks.{point_at};
-ghost use Rattle.region.specs.Edges.{Edge, normal_of, in_lon_range, crosses_seam, is_counted};
-ghost use Rattle.region.specs.View.{view_of, empty, odd_at};
+ghost use Rattle.region.specs.Edges.{edge, normal_of, in_lon_range, crosses_seam, is_in_range, is_counted};
+ghost use Rattle.region.specs.View.{view_of, empty, odd_at, edges_of, edges_ahead};
 ghost use Rattle.region.specs.Region.{contains_of, seam_count_of, rule_at, flag_of, build_of, Builds};
 ghost use Rattle.region.specs.Poles.{step_of, basic_of, rule_flag, fixed_rule};
 
@@ -22,6 +23,22 @@ pub struct Region {
     pub contains_south_pole: bool,
     // How many edges cross the seam.
     pub seam_count: usize,
+}
+
+// From corner to corner, and the normal of the two.
+#[derive(Clone, Copy)]
+pub struct Edge {
+    pub from: Coo3D,
+    pub to: Coo3D,
+    pub normal: Vect3,
+}
+
+// The edges that are left of a region's: each corner ends one, and `from` is where the next one starts.
+#[derive(Drop)]
+pub struct EdgeIter<'a> {
+    from: Coo3D,
+    corners: &'a [Coo3D],
+    normals: &'a [Vect3],
 }
 
 // The rule that sets the flag.
@@ -74,6 +91,78 @@ pub fn is_counted(coo: Coo3D, from: Coo3D, to: Coo3D, normal: Vect3) -> bool
     ensures { result ≡ is_counted coo (record { from = from; to = to; normal = normal }) }
 {
     is_in_lon_range(coo, from, to) & (coo3d::dot_product(coo.to_vect3(), normal) > 0.0)
+}
+
+impl Edge {
+    // The edge of two corners, with its normal.
+    pub fn new(from: Coo3D, to: Coo3D) -> Edge
+        ensures { result ≡ edge from to }
+    {
+        Edge {
+            from,
+            to,
+            normal: edge_normal(from, to),
+        }
+    }
+
+    pub fn crosses_seam(self) -> bool
+        ensures { result ≡ crosses_seam self.from.lon self.to.lon }
+    {
+        crosses_seam(self.from, self.to)
+    }
+
+    pub fn is_in_range(self, p: Coo3D) -> bool
+        ensures { result ≡ is_in_range p self }
+    {
+        is_in_lon_range(p, self.from, self.to)
+    }
+
+    pub fn is_counted(self, p: Coo3D) -> bool
+        ensures { result ≡ is_counted p self }
+    {
+        is_counted(p, self.from, self.to, self.normal)
+    }
+}
+
+impl<'a> Iterator for EdgeIter<'a> {
+    type Item = Edge;
+
+    ghost next_gives = { YieldsFirst edges_ahead };
+
+    ghost remaining = { item_count edges_ahead };
+
+    fn next(&mut self) -> Option<Edge> {
+        let (to, corners) = self.corners.split_first()?;
+        let (normal, normals) = self.normals.split_first()?;
+        let edge = Edge {
+            from: self.from,
+            to: *to,
+            normal: *normal,
+        };
+        self.from = *to;
+        self.corners = corners;
+        self.normals = normals;
+        Some(edge)
+    }
+}
+
+impl Region {
+    // Of a count above 64, which a call on the region refuses, the edges of its 64 corners.
+    pub fn edges(&self) -> EdgeIter<'_>
+        ensures { edges_ahead result ≡ edges_of (view_of self.now) }
+    {
+        let count = self.count.min(64);
+        let from = if count == 0 {
+            Coo3D::origin()
+        } else {
+            self.vertices[count - 1]
+        };
+        EdgeIter {
+            from,
+            corners: &self.vertices[..count],
+            normals: &self.cross_products[..count],
+        }
+    }
 }
 
 // The sum of longitude steps, one more taken: the short way round where it crosses the seam.

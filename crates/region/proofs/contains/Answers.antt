@@ -4,6 +4,10 @@ use borrow.Author.Rules.{rules}
 use Rattle.domain.proofs.Counts.{count_in, count_refused}
 use Rattle.lists.specs.Counts.{exactly_one}
 use Rattle.region.specs.Edges.{is_counted}
+use Rattle.std.proofs.lemmas.Result.{err_from_is_err_and}
+use Rattle.domain.specs.Checks.{point_at}
+use Rattle.refusal.specs.Answer.{answered, and_then}
+use Rattle.region.specs.View.{view_of, contained}
 use Rattle.region.specs.Region.{contains_of}
 use Rattle.region.proofs.Edges.{edge_at}
 use Rattle.region.proofs.Containing.{deciding_starts, deciding_goes_on, decided, decision, out_of_range, in_range_there}
@@ -11,7 +15,9 @@ use Rattle.region.proofs.contains.Goals as goal
 
 pub returns-in_err-check_count : goal.returns-in_err-check_count
 unfolding contains_of
-returns-in_err-check_count c = search (rules, count_refused)
+returns-in_err-check_count c =
+    let p = err_from_is_err_and c.from_residual.result c.from_residual.ensures.1 in
+    rw (p.1, p.2) (count_refused c.args.r.count tt (and_then (point_at 0 c.args.coo) (λ q. answered (contained q (view_of c.args.r)))) c.in_err-check_count.ensures.answer)
 
 pub returns-in_err-p : goal.returns-in_err-p
 unfolding contains_of

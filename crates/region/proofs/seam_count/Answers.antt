@@ -1,5 +1,5 @@
 -- `region::seam_count` meets its contract. Assumes nothing.
-use Rattle.std.proofs.Common.{rules}
+use mathlib.Core.Path.{sym}
 use Rattle.std.proofs.lemmas.Result.{err_from_is_err_and}
 use Rattle.domain.proofs.Counts.{count_in, count_refused}
 use Rattle.refusal.specs.Answer.{answered}
@@ -12,4 +12,4 @@ returns-in_err-check_count c = let p = err_from_is_err_and c.from_residual.resul
 
 pub returns : goal.returns
 unfolding seam_count_of
-returns c = search (rules, count_in)
+returns c = sym (count_in _ _ c.in_ok-check_count.ensures.few)
