@@ -16,7 +16,7 @@ returns-in_err-normal-clause-steps c =
     rw c.from_residual-in_err-normal.ensures (none, none)
 
 pub returns-clause-steps : goal.returns-clause-steps
-returns-clause-steps c = search (rules, next_ahead)
+returns-clause-steps c = next_ahead c.args.self.now.from c.in_ok-to.ensures.cases.0 c.in_ok-normal.ensures.cases.0
 
 pub returns-clause-goes : goal.returns-clause-goes
 returns-clause-goes c = search (rules, next_ahead)
