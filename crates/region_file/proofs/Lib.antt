@@ -5,3 +5,4 @@ pub mod Writing
 pub mod Back
 pub mod RoundTrips
 pub mod Made
+pub mod Refusing

@@ -23,10 +23,10 @@ pub read_refused : (s : List ℕ) (k : ℕ) (vs : List ℕ) → refused k vs ≡
 unfolding read_of
 read_refused s k vs e = rw (sym e)
 
-pub read_built : (s : List ℕ) (t : Trailer) (l : List Coo3D) → answered t ≡ trailer_of s → take t.count l ≡ corners_at s (length s - file_length t.count) t.count
+pub read_built : (s : List ℕ) (t : Trailer) (l : List Coo3D) (whole : ℕ) → answered t ≡ trailer_of s → whole ≡ file_length t.count → take t.count l ≡ corners_at s (length s - whole) t.count
     → build_of l t.count (fixed_rule t.flag) ≡ read_of s
 unfolding read_of
-read_built s t l e p =
+read_built s t l whole e w p =
     let n = t.count in
-    let cs = corners_at s (length s - file_length n) n in
-    rw (sym e) (build_first l cs n (fixed_rule t.flag) (p ∙ sym (take_all n cs (le_of_eq (length_corners s (length s - file_length n) n)))))
+    let cs = corners_at s (length s - whole) n in
+    rw (sym e, sym w) (build_first l cs n (fixed_rule t.flag) (p ∙ sym (take_all n cs (le_of_eq (length_corners s (length s - whole) n)))))

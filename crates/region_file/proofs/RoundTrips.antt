@@ -27,7 +27,7 @@ use Rattle.region_file.specs.File.{file_length, trailer_of, read_of, trailer_byt
 use Rattle.region_file.specs.RoundTrips.{ReadWritten, WriteRead}
 use Rattle.region_file.proofs.Back.{number_bytes, bytes_at, double_written, double_read}
 use Rattle.region_file.proofs.Reading.{length_corners}
-use Rattle.region_file.proofs.Trailers.{Accepted, accepted, fields, good}
+use Rattle.region_file.proofs.Trailers.{Accepted, accepted, good}
 use Rattle.region_file.proofs.Writing.{length_corner, length_corners_bytes, length_trailer}
 
 -- ---- read what was written
@@ -102,8 +102,7 @@ trailer_back p flag n some few room =
     let flagged : cond flag 1 0 ≡ number_at 4 s (length s - 16 + 4) = sym (ap (λ (k : ℕ). number_at 4 s (k + 4)) at ∙ behind 4 4 p t ∙ number_bytes 4 (cond flag 1 0) small) in
     let counted : n ≡ number_at 4 s (length s - 16 + 8) = sym (ap (λ (k : ℕ). number_at 4 s (k + 8)) at ∙ behind 4 8 p t ∙ number_bytes 4 n (omega (arith, few))) in
     let back : file_length n ≡ number_at 4 s (length s - 16 + 12) = sym (ap (λ (k : ℕ). number_at 4 s (k + 12)) at ∙ behind 4 12 p t ∙ number_bytes 4 (file_length n) (omega (arith, few))) in
-    sym (fields s 1 (cond flag 1 0) n (file_length n) edition flagged counted back)
-    ∙ good (length s) 1 (cond flag 1 0) n (file_length n) long refl (flag_small flag) (λ (z : n ≡ 0). omega (arith, some, z)) few refl whole
+    sym (good (record { long = long; edition_is = edition; flag_is = flagged; count_is = counted; distance_is = back }) refl (flag_small flag) (some, few) refl refl whole)
     ∙ rw (flag_back flag)
 
 pub read_written : ReadWritten

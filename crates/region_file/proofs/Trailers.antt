@@ -1,70 +1,82 @@
 -- Laws of `trailer_of`: the tests in their order, over plain numbers, for the reader; and what an accepted trailer tells.
 use Prim.Native.Nat.{ℕ, ◌+◌, ◌-◌, ◌≤◌, ◌<◌}
-use mathlib.Core.Path.{◌≡◌, refl, sym, ap, subst}
+use native.Mathlib.Omega.{arith}
+use mathlib.Core.Path.{◌≡◌, refl, sym, ap, subst, ◌∙◌}
 use mathlib.Core.Bool.{Bool, true, false, not}
 use mathlib.Core.List.{List, []}
 use borrow.Author.Tests.{eqb-true, ltb-false, eq-eqb, ne_eqb, le-ltb, lt-ltb}
 use lib.Dec.{eqb, ltb}
 use lib.ListN.{length}
 use Rattle.domain.specs.Checks.{with_count}
-use Rattle.refusal.specs.Answer.{Answer, answered, refused, refuse_if}
-use Rattle.refusal.proofs.Answers.{passed, same_answer}
-use Rattle.domain.proofs.Counts.{count_answered, count_passed}
+use Rattle.std.specs.Prelude.{⊤, Option, Some, None, Result, Ok, Err}
+use Rattle.std.specs.Option.{SomeIff, ok_or}
+use Rattle.refusal.specs.declared.Cause.{Cause}
+use Rattle.refusal.specs.declared.Cause.TheVariants.{WrongTrailer}
+use Rattle.refusal.specs.Answer.{Answer, answered, refused, refused_for, refuse_if, and_then, answer_of}
+use Rattle.refusal.proofs.Answers.{passed, same_answer, not_refused}
+use Rattle.domain.proofs.Counts.{count_in, count_refused, count_answered, count_passed}
 use Rattle.region_file.specs.declared.Trailer.{Trailer}
 use Rattle.region_file.specs.Bytes.{number_at}
 use Rattle.region_file.specs.File.{file_length, trailer_of}
 
--- the tests on the length and the four fields
-abbrev pub tested : ℕ → ℕ → ℕ → ℕ → ℕ → Answer Trailer
-tested len edition flag n distance =
-    refuse_if (ltb len 16) 7 []
-    (refuse_if (not (eqb edition 1)) 7 []
-    (refuse_if (ltb 1 flag) 7 []
-    (with_count n
-    (refuse_if (not (eqb distance (file_length n))) 7 []
-    (refuse_if (ltb len (file_length n)) 7 []
-    (answered (record { flag = eqb flag 1; count = n })))))))
+-- ---- the tests in their order
 
-pub fields : (s : List ℕ) (edition flag n distance : ℕ) → edition ≡ number_at 4 s (length s - 16) → flag ≡ number_at 4 s (length s - 16 + 4) → n ≡ number_at 4 s (length s - 16 + 8) → distance ≡ number_at 4 s (length s - 16 + 12)
-    → tested (length s) edition flag n distance ≡ trailer_of s
-unfolding trailer_of
-fields s edition flag n distance a b c d = rw (a, b, c, d)
+-- what the last 16 bytes hold
+pub record Fields (s : List ℕ) (edition flag n distance : ℕ) : Type 0 where
+  pub long : 16 ≤ length s
+  pub edition_is : edition ≡ number_at 4 s (length s - 16)
+  pub flag_is : flag ≡ number_at 4 s (length s - 16 + 4)
+  pub count_is : n ≡ number_at 4 s (length s - 16 + 8)
+  pub distance_is : distance ≡ number_at 4 s (length s - 16 + 12)
 
-module _ (len edition flag n distance : ℕ) where
-  pub no_edition : 16 ≤ len → (edition ≡ 1 → ⊥) → tested len edition flag n distance ≡ refused 7 []
-  no_edition a h = simp (le-ltb _ _ a, ne_eqb _ _ h)
-
-  pub no_flag : 16 ≤ len → edition ≡ 1 → 1 < flag → tested len edition flag n distance ≡ refused 7 []
-  no_flag a b h = simp (le-ltb _ _ a, eq-eqb _ _ b, lt-ltb _ _ h)
-
-  pub no_corner : 16 ≤ len → edition ≡ 1 → flag ≤ 1 → n ≡ 0 → tested len edition flag n distance ≡ refused 2 []
-  no_corner a b c h = simp (le-ltb _ _ a, eq-eqb _ _ b, le-ltb _ _ c, eq-eqb _ _ h)
-
-  pub many_corners : 16 ≤ len → edition ≡ 1 → flag ≤ 1 → (n ≡ 0 → ⊥) → 64 < n → tested len edition flag n distance ≡ refused 3 []
-  many_corners a b c d h = simp (le-ltb _ _ a, eq-eqb _ _ b, le-ltb _ _ c, ne_eqb _ _ d, lt-ltb _ _ h)
-
-  pub no_distance : 16 ≤ len → edition ≡ 1 → flag ≤ 1 → (n ≡ 0 → ⊥) → n ≤ 64 → (distance ≡ file_length n → ⊥) → tested len edition flag n distance ≡ refused 7 []
-  no_distance a b c d e h = simp (le-ltb _ _ a, eq-eqb _ _ b, le-ltb _ _ c, ne_eqb _ _ d, le-ltb _ _ e, ne_eqb _ _ h)
-
-  pub cut : 16 ≤ len → edition ≡ 1 → flag ≤ 1 → (n ≡ 0 → ⊥) → n ≤ 64 → distance ≡ file_length n → len < file_length n → tested len edition flag n distance ≡ refused 7 []
-  cut a b c d e f h = simp (le-ltb _ _ a, eq-eqb _ _ b, le-ltb _ _ c, ne_eqb _ _ d, le-ltb _ _ e, eq-eqb _ _ f, lt-ltb _ _ h)
-
-  pub good : 16 ≤ len → edition ≡ 1 → flag ≤ 1 → (n ≡ 0 → ⊥) → n ≤ 64 → distance ≡ file_length n → file_length n ≤ len → tested len edition flag n distance ≡ answered (record { flag = eqb flag 1; count = n })
-  good a b c d e f h = simp (le-ltb _ _ a, eq-eqb _ _ b, le-ltb _ _ c, ne_eqb _ _ d, le-ltb _ _ e, eq-eqb _ _ f, le-ltb _ _ h)
-
--- what is wrong before all four fields are read
 module _ (s : List ℕ) where
-  pub short_file : length s < 16 → trailer_of s ≡ refused 7 []
+  pub short_file : (start : Option ℕ) → SomeIff start (16 ≤ length s) (length s - 16) → (cause : Cause) → Err cause ≡ ok_or start WrongTrailer → refused_for cause ≡ trailer_of s
   unfolding trailer_of
-  short_file h = simp (lt-ltb _ _ h)
+  short_file None begins cause e =
+      let h : length s < 16 = omega (arith, begins) in
+      ap (λ (r : Result ℕ Cause). and_then (answer_of r) (λ x. trailer_of s)) e ∙ sym (simp (lt-ltb _ _ h))
+  short_file (Some at) begins cause e = ap (λ (r : Result ℕ Cause). and_then (answer_of r) (λ x. trailer_of s)) e
 
-  pub other_edition : (edition : ℕ) → edition ≡ number_at 4 s (length s - 16) → 16 ≤ length s → (edition ≡ 1 → ⊥) → trailer_of s ≡ refused 7 []
-  unfolding trailer_of
-  other_edition edition e a h = rw (sym e) (no_edition (length s) edition (number_at 4 s (length s - 16 + 4)) (number_at 4 s (length s - 16 + 8)) (number_at 4 s (length s - 16 + 12)) a h)
+  pub begins_at : (start : Option ℕ) → SomeIff start (16 ≤ length s) (length s - 16) → (at : ℕ) → ◌≡◌ {A = Result ℕ Cause} (Ok at) (ok_or start WrongTrailer)
+      → (edition flag n distance : ℕ) → edition ≡ number_at 4 s at → flag ≡ number_at 4 s (at + 4) → n ≡ number_at 4 s (at + 8) → distance ≡ number_at 4 s (at + 12) → Fields s edition flag n distance
+  begins_at None begins at e edition flag n distance p q r t = not_refused WrongTrailer e
+  begins_at (Some k) begins at e edition flag n distance p q r t =
+      let at_is : at ≡ length s - 16 = same_answer (ap answer_of e) ∙ begins.1 in
+      record { long = begins.0; edition_is = rw (sym at_is) p; flag_is = rw (sym at_is) q; count_is = rw (sym at_is) r; distance_is = rw (sym at_is) t }
 
-  pub other_flag : (edition flag : ℕ) → edition ≡ number_at 4 s (length s - 16) → flag ≡ number_at 4 s (length s - 16 + 4) → 16 ≤ length s → edition ≡ 1 → 1 < flag → trailer_of s ≡ refused 7 []
+module _ {s : List ℕ} {edition flag n distance : ℕ} (f : Fields s edition flag n distance) where
+  pub wrong_edition : (edition ≡ 1 → ⊥) → refused 7 [] ≡ trailer_of s
   unfolding trailer_of
-  other_flag edition flag e f a b h = rw (sym e, sym f) (no_flag (length s) edition flag (number_at 4 s (length s - 16 + 8)) (number_at 4 s (length s - 16 + 12)) a b h)
+  wrong_edition h = rw (sym f.edition_is) (sym (simp (le-ltb _ _ f.long, ne_eqb _ _ h)))
+
+  module _ (known : edition ≡ 1) where
+    pub wrong_flag : 1 < flag → refused 7 [] ≡ trailer_of s
+    unfolding trailer_of
+    wrong_flag h = rw (sym f.edition_is, sym f.flag_is) (sym (simp (le-ltb _ _ f.long, eq-eqb _ _ known, lt-ltb _ _ h)))
+
+    module _ (set : flag ≤ 1) where
+      ends : Answer Trailer
+      ends = refuse_if (not (eqb distance (file_length n))) 7 [] (refuse_if (ltb (length s) (file_length n)) 7 [] (answered (record { flag = eqb flag 1; count = n })))
+
+      counted : with_count n ends ≡ trailer_of s
+      unfolding trailer_of ends
+      counted = rw (sym f.edition_is, sym f.flag_is, sym f.count_is, sym f.distance_is) (sym (simp (le-ltb _ _ f.long, eq-eqb _ _ known, le-ltb _ _ set)))
+
+      pub wrong_count : {k : ℕ} {vs : List ℕ} → ◌≡◌ {A = Answer ⊤} (refused k vs) (with_count n (answered tt)) → refused k vs ≡ trailer_of s
+      wrong_count h = count_refused n tt ends h ∙ counted
+
+      module _ (few : (0 < n) × (n ≤ 64)) {whole : ℕ} (w : whole ≡ file_length n) where
+        pub wrong_distance : (distance ≡ whole → ⊥) → refused 7 [] ≡ trailer_of s
+        unfolding ends
+        wrong_distance h = sym (rw (sym w) (simp (ne_eqb _ _ h))) ∙ sym (count_in n ends few) ∙ counted
+
+        pub cut : distance ≡ whole → length s < whole → refused 7 [] ≡ trailer_of s
+        unfolding ends
+        cut same h = sym (rw (sym w) (simp (eq-eqb _ _ same, lt-ltb _ _ h))) ∙ sym (count_in n ends few) ∙ counted
+
+        pub good : distance ≡ whole → whole ≤ length s → answered (record { flag = eqb flag 1; count = n }) ≡ trailer_of s
+        unfolding ends
+        good same h = sym (rw (sym w) (simp (eq-eqb _ _ same, le-ltb _ _ h))) ∙ sym (count_in n ends few) ∙ counted
 
 -- ---- what an accepted trailer tells
 

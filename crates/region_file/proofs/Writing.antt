@@ -4,11 +4,11 @@ use native.Mathlib.Omega.{arith}
 use mathlib.Core.Path.{◌≡◌, refl, sym, ◌∙◌}
 use mathlib.Core.Bool.{Bool}
 use mathlib.Core.List.{List, [], ◌∷◌, ◌++◌}
-use borrow.Author.Tests.{ne_eqb, le-ltb, lt-ltb}
+use borrow.Author.Tests.{le-ltb, lt-ltb}
 use lib.ListN.{length, take, drop, get_or, length-append}
 use lib.Seq.{sets, sets-eq}
 use Rattle.coo3d.specs.declared.Coo3D.{Coo3D}
-use Rattle.domain.proofs.Counts.{count_none, count_many}
+use Rattle.domain.proofs.Counts.{count_in}
 use Rattle.lists.proofs.Passing.{next_left, none_left}
 use Rattle.refusal.specs.Answer.{answered, refused}
 use Rattle.region.specs.View.{View}
@@ -56,30 +56,28 @@ module _ (l : List Coo3D) (n : ℕ) (long : n ≤ length l) where
 -- ---- the answers
 
 module _ (v : View) (out : List ℕ) where
-  pub write_none : v.count ≡ 0 → (refused 2 [] ≡ write_of v (length out)) × (out ≡ output_of v out)
-  unfolding write_of output_of
-  write_none e = let w = count_none v.count _ e in (sym w, rw w)
+  pub write_kept : {k : ℕ} {vs : List ℕ} → refused k vs ≡ write_of v (length out) → out ≡ output_of v out
+  unfolding output_of
+  write_kept e = rw (sym e)
 
-  pub write_many : (v.count ≡ 0 → ⊥) → 64 < v.count → (refused 3 [] ≡ write_of v (length out)) × (out ≡ output_of v out)
-  unfolding write_of output_of
-  write_many z h = let w = count_many v.count _ z h in (sym w, rw w)
+  module _ (few : (0 < v.count) × (v.count ≤ 64)) where
+    pub write_short : (needed : ℕ) → needed ≡ file_length v.count → length out < needed → refused 8 (needed ∷ []) ≡ write_of v (length out)
+    unfolding write_of
+    write_short needed n s = sym (count_in v.count _ few ∙ rw (sym n) (simp (lt-ltb _ _ s)))
 
-  pub write_short : (v.count ≡ 0 → ⊥) → v.count ≤ 64 → length out < file_length v.count → (refused 8 (file_length v.count ∷ []) ≡ write_of v (length out)) × (out ≡ output_of v out)
-  unfolding write_of output_of
-  write_short z h s = (simp (ne_eqb _ _ z, le-ltb _ _ h, lt-ltb _ _ s), simp (ne_eqb _ _ z, le-ltb _ _ h, lt-ltb _ _ s))
-
-  -- the corners were stored, then the trailer
-  pub write_done : (corners after : List ℕ) → (v.count ≡ 0 → ⊥) → v.count ≤ 64 → file_length v.count ≤ length out → length v.corners ≡ v.count
-      → corners ≡ sets out 0 (corners_bytes v.corners) → after ≡ sets corners (40 * v.count) (trailer_bytes v.flag v.count)
-      → (answered (file_length v.count) ≡ write_of v (length out)) × (after ≡ output_of v out)
-  unfolding write_of output_of file_of
-  write_done corners after z h room e p q =
-      let at : 0 + length (corners_bytes v.corners) ≡ 40 * v.count = omega (arith, length_corners_bytes v.corners, e) in
-      let f : length (file_of v) ≡ file_length v.count = length_file v e in
-      let fits : 0 + length (file_of v) ≤ length out = omega (arith, f, room) in
-      let past : 0 + length (file_of v) ≡ file_length v.count = omega (arith, f) in
-      let stored : after ≡ file_of v ++ drop (file_length v.count) out =
-      q ∙ rw p (sets_then (corners_bytes v.corners) (trailer_bytes v.flag v.count) out 0 (40 * v.count) at)
-      ∙ sets-eq (file_of v) out 0 fits ∙ rw past
-      in
-      (simp (ne_eqb _ _ z, le-ltb _ _ h, le-ltb _ _ room), stored ∙ simp (ne_eqb _ _ z, le-ltb _ _ h, le-ltb _ _ room))
+    -- the corners were stored, then the trailer
+    pub write_done : (corners after : List ℕ) → file_length v.count ≤ length out → length v.corners ≡ v.count
+        → corners ≡ sets out 0 (corners_bytes v.corners) → after ≡ sets corners (40 * v.count) (trailer_bytes v.flag v.count)
+        → (answered (file_length v.count) ≡ write_of v (length out)) × (after ≡ output_of v out)
+    unfolding write_of output_of file_of
+    write_done corners after room e p q =
+        let at : 0 + length (corners_bytes v.corners) ≡ 40 * v.count = omega (arith, length_corners_bytes v.corners, e) in
+        let f : length (file_of v) ≡ file_length v.count = length_file v e in
+        let fits : 0 + length (file_of v) ≤ length out = omega (arith, f, room) in
+        let past : 0 + length (file_of v) ≡ file_length v.count = omega (arith, f) in
+        let stored : after ≡ file_of v ++ drop (file_length v.count) out =
+        q ∙ rw p (sets_then (corners_bytes v.corners) (trailer_bytes v.flag v.count) out 0 (40 * v.count) at)
+        ∙ sets-eq (file_of v) out 0 fits ∙ rw past
+        in
+        let done : answered (file_length v.count) ≡ write_of v (length out) = sym (count_in v.count _ few ∙ simp (le-ltb _ _ room)) in
+        (done, stored ∙ rw (sym done))

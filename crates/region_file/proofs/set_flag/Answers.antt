@@ -2,12 +2,12 @@
 use Prim.Native.Nat.{ℕ, ◌+◌, ◌-◌, ◌≤◌}
 use native.Mathlib.Omega.{arith}
 use mathlib.Core.Path.{◌≡◌, sym, ap, ◌∙◌}
-use mathlib.Core.Bool.{Bool, true, cond}
+use mathlib.Core.Bool.{Bool, cond}
 use mathlib.Core.List.{List}
 use mir.Val.{bool_byte}
 use lib.ListN.{length}
 use lib.Seq.{sets, sets-eq}
-use Rattle.refusal.specs.Answer.{answered, refused, verdict, answer_of}
+use Rattle.refusal.specs.Answer.{answered, refused}
 use Rattle.region_file.specs.declared.Trailer.{Trailer}
 use Rattle.region_file.specs.Bytes.{bytes_of}
 use Rattle.region_file.specs.File.{flag_bytes, trailer_of, with_flag_field}
@@ -20,9 +20,6 @@ module _ (s : List ℕ) (t : Trailer) (told : answered t ≡ trailer_of s) where
   long : 16 ≤ length s
   long = (accepted s t (sym told)).long
 
-  set_done : answered true ≡ verdict (trailer_of s)
-  set_done = rw (sym told)
-
   field_set : (flag : Bool) → sets s (length s - 12) (bytes_of 4 (bool_byte flag)) ≡ with_flag_field s flag
   unfolding with_flag_field
   field_set flag =
@@ -33,28 +30,18 @@ module _ (s : List ℕ) (t : Trailer) (told : answered t ≡ trailer_of s) where
       ap (λ (n : ℕ). sets s (length s - 12) (bytes_of 4 n)) (flag_number flag) ∙ sets-eq (flag_bytes flag) s (length s - 12) room ∙ rw (e, sym told)
 
 -- a trailer that is refused
-module _ (s : List ℕ) (k : ℕ) (vs : List ℕ) (told : refused k vs ≡ trailer_of s) where
-  set_refused : refused k vs ≡ verdict (trailer_of s)
-  set_refused = rw (sym told)
+field_left : (s : List ℕ) (k : ℕ) (vs : List ℕ) → refused k vs ≡ trailer_of s → (flag : Bool) → s ≡ with_flag_field s flag
+unfolding with_flag_field
+field_left s k vs told flag = rw (sym told)
 
-  field_left : (flag : Bool) → s ≡ with_flag_field s flag
-  unfolding with_flag_field
-  field_left flag = rw (sym told)
+pub overflow_sub-at : goal.overflow_sub-at
+overflow_sub-at c = let h = long _ _ c.in_ok-read_trailer.ensures in omega (arith, h)
 
-pub overflow_sub-len : goal.overflow_sub-len
-overflow_sub-len c =
-    let h = long _ _ (ap answer_of (sym c.in-Ok.is) ∙ c.read_trailer.ensures) in omega (arith, h)
+pub put_u32-requires : goal.put_u32-requires
+put_u32-requires c = let h = long _ _ c.in_ok-read_trailer.ensures in omega (arith, h)
 
-pub put_number-requires : goal.put_number-requires
-put_number-requires c =
-    let h = long _ _ (ap answer_of (sym c.in-Ok.is) ∙ c.read_trailer.ensures) in omega (arith, h)
+pub returns-in_err-read_trailer-clause-file_after : goal.returns-in_err-read_trailer-clause-file_after
+returns-in_err-read_trailer-clause-file_after c = field_left _ _ _ c.in_err-read_trailer.ensures _
 
-pub returns-in-Err : goal.returns-in-Err
-returns-in-Err c =
-    let told = ap answer_of (sym c.in-Err.is) ∙ c.read_trailer.ensures in
-    record { answer = set_refused _ _ _ told; file_after = field_left _ _ _ told _ }
-
-pub returns-in-Ok : goal.returns-in-Ok
-returns-in-Ok c =
-    let told = ap answer_of (sym c.in-Ok.is) ∙ c.read_trailer.ensures in
-    record { answer = set_done _ _ told; file_after = c.put_number.ensures ∙ field_set _ _ told _ }
+pub returns-clause-file_after : goal.returns-clause-file_after
+returns-clause-file_after c = c.put_u32.ensures ∙ field_set _ _ c.in_ok-read_trailer.ensures _

@@ -1,5 +1,5 @@
 -- `region_file::write` meets its contract. Assumes nothing.
-use Prim.Native.Nat.{◌-◌, ◌*◌, ◌≤◌}
+use Prim.Native.Nat.{◌*◌}
 use mathlib.Core.Path.{◌≡◌}
 use lib.ListN.{length, take, drop}
 use lib.Seq.{sets}
@@ -7,7 +7,4 @@ use Rattle.region_file.specs.Bytes.{corners_bytes}
 use Rattle.region_file.proofs.write.Given as goal
 
 abbrev pub invariant-loop-i : goal.invariant-loop-i
-invariant-loop-i l = (l.i ≤ l.count) × ((length l.out ≡ length l.initial.out) × (sets l.out (40 * l.i) (corners_bytes (drop l.i (take l.count l.r.vertices))) ≡ sets l.initial.out 0 (corners_bytes (take l.count l.r.vertices))))
-
-abbrev pub decreases-loop-i : goal.decreases-loop-i
-decreases-loop-i l = l.count - l.i
+invariant-loop-i l = (length l.out ≡ length l.initial.out) × (sets l.out (40 * l.i) (corners_bytes (drop l.i (take l.count l.r.vertices))) ≡ sets l.initial.out 0 (corners_bytes (take l.count l.r.vertices)))
