@@ -37,9 +37,6 @@ pub struct LonLat {
     pub lat: f64,
 }
 
-// 2 ^ -52, upstream's `f64::EPSILON`.
-const EPSILON: f64 = 2.220446049250313e-16;
-
 // What has the coordinates of a vector: a point and a unit vector do.
 pub trait Vec3: Copy {
     // The vector with those coordinates.
@@ -130,7 +127,7 @@ pub fn is_unit_from_norm(norm: f64) -> bool
     ensures { result ≡ is_unit norm }
 {
     let step = norm - 1.0;
-    float::max(step, -step) <= EPSILON
+    float::max(step, -step) <= f64::EPSILON
 }
 
 impl From<Coo3D> for Vect3 {
