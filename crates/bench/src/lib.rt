@@ -5,14 +5,11 @@
 
 ghost use Rattle.std.specs.Prelude.{◌≤◌, ◌<◌, length};
 
-use cone::ConeAnswer;
 use coo3d::{Coo3D, UnitVect3, Vect3};
-use crossings::{AllAnswer, FirstAnswer};
-use refusal::{Decision, Outcome};
+use crossings::AllAnswer;
 use region::{ContainsSouthPoleMethod, Region};
-use region_file::WriteAnswer;
 use root::WholeRoot;
-use zone::{Zone, ZoneAnswer};
+use zone::Zone;
 
 // The sum goes round one bit, so that the order counts.
 fn mix(sum: u64, x: u64) -> u64 {
@@ -31,34 +28,34 @@ fn mix_vector(sum: u64, v: Vect3) -> u64 {
     mix_double(mix_double(mix_double(sum, v.x), v.y), v.z)
 }
 
-fn mix_outcome(sum: u64, outcome: Outcome) -> u64 {
+fn mix_outcome(sum: u64, outcome: Result<(), Cause>) -> u64 {
     match outcome {
-        Outcome::Done => mix(sum, 0),
-        Outcome::Refused(cause) => mix(sum, 16 + refusal::number(cause) % 16),
+        Ok(()) => mix(sum, 0),
+        Err(cause) => mix(sum, 16 + refusal::number(cause) % 16),
     }
 }
 
 // Of a region that was made: its flag, and how many edges cross the seam.
-fn mix_made(sum: u64, outcome: Outcome, flag: bool, seam_count: usize) -> u64 {
+fn mix_made(sum: u64, outcome: Result<(), Cause>, flag: bool, seam_count: usize) -> u64 {
     mix(
         mix(mix_outcome(sum, outcome), flag as u64),
         seam_count as u64,
     )
 }
 
-fn mix_decision(sum: u64, d: Decision) -> u64 {
+fn mix_decision(sum: u64, d: Result<bool, Cause>) -> u64 {
     match d {
-        Decision::Yes => mix(sum, 1),
-        Decision::No => mix(sum, 0),
-        Decision::Refused(cause) => mix(sum, 16 + refusal::number(cause) % 16),
+        Ok(true) => mix(sum, 1),
+        Ok(false) => mix(sum, 0),
+        Err(cause) => mix(sum, 16 + refusal::number(cause) % 16),
     }
 }
 
-fn mix_first(sum: u64, a: FirstAnswer) -> u64 {
+fn mix_first(sum: u64, a: Result<Option<UnitVect3>, Cause>) -> u64 {
     match a {
-        FirstAnswer::At(p) => mix_unit(mix(sum, 1), p),
-        FirstAnswer::None => mix(sum, 0),
-        FirstAnswer::Refused(cause) => mix(sum, 16 + refusal::number(cause) % 16),
+        Ok(Some(p)) => mix_unit(mix(sum, 1), p),
+        Ok(None) => mix(sum, 0),
+        Err(cause) => mix(sum, 16 + refusal::number(cause) % 16),
     }
 }
 
@@ -66,8 +63,8 @@ fn mix_first(sum: u64, a: FirstAnswer) -> u64 {
 fn mix_all(sum: u64, a: AllAnswer) -> u64 {
     let outcome = a.outcome;
     match outcome {
-        Outcome::Refused(_) => mix_outcome(sum, outcome),
-        Outcome::Done => {
+        Err(_) => mix_outcome(sum, outcome),
+        Ok(()) => {
             let crossings = a.crossings;
             let points = crossings.points;
             let p = points[0];
@@ -418,11 +415,11 @@ pub extern "C" fn bench_cone(corners: &[f64], points: &[f64]) -> u64 {
         let p = point_at(points, at);
         given[k] = p;
         match cone::bounding_cone(given, count) {
-            ConeAnswer::Made(c) => {
+            Ok(c) => {
                 let center = c.center;
                 sum = mix_unit(mix_double(sum, c.d2_max), center);
             }
-            ConeAnswer::Refused(cause) => {
+            Err(cause) => {
                 sum = mix(sum, refusal::number(cause));
             }
         }
@@ -656,10 +653,10 @@ pub extern "C" fn bench_write(
         let p = point_at(points, at);
         region.vertices[k] = p;
         match region_file::write(region, out) {
-            WriteAnswer::Written(len) => {
+            Ok(len) => {
                 sum = mix(sum, len as u64);
             }
-            WriteAnswer::Refused(cause) => {
+            Err(cause) => {
                 sum = mix(sum, refusal::number(cause));
             }
         }
@@ -738,10 +735,10 @@ pub extern "C" fn bench_zone_new(bounds: &[f64]) -> u64 {
         i += 1;
         let b = point_at(bounds, at);
         match Zone::new(b.x, b.y, b.z, b.lon) {
-            ZoneAnswer::Made(z) => {
+            Ok(z) => {
                 sum = mix(mix_double(sum, z.lat_max), z.cross_primary_meridian as u64);
             }
-            ZoneAnswer::Refused(cause) => {
+            Err(cause) => {
                 sum = mix(sum, refusal::number(cause));
             }
         }
@@ -753,7 +750,7 @@ pub extern "C" fn bench_zone_new(bounds: &[f64]) -> u64 {
 #[unsafe(no_mangle)]
 pub extern "C" fn bench_zone_questions(bounds: &[f64], triples: &[f64]) -> u64 {
     let b = point_at(bounds, 0);
-    let ZoneAnswer::Made(zone) = Zone::new(b.x, b.y, b.z, b.lon) else {
+    let Ok(zone) = Zone::new(b.x, b.y, b.z, b.lon) else {
         return 0;
     };
     let mut sum: u64 = 0;

@@ -6,14 +6,8 @@ use Rattle.coo3d.specs.declared.UnitVect3.{UnitVect3}
 use Rattle.coo3d.specs.Vectors.{vect_of_point, vect_of_unit, norm_of, unit_of, squared_dist_of, is_finite_unit}
 use Rattle.domain.specs.Checks.{points_of}
 use Rattle.float.specs.Doubles.{◌⊕◌, ◌⊘◌, nought, max_of}
-use Rattle.refusal.specs.Answer.{Answer, answered, refused_for, refuse_if, and_then}
+use Rattle.refusal.specs.Answer.{Answer, answered, refuse_if, and_then}
 use Rattle.cone.specs.declared.Cone.{Cone}
-use Rattle.cone.specs.declared.ConeAnswer.{ConeAnswer}
-use Rattle.cone.specs.declared.ConeAnswer.TheVariants.{Made, Refused}
-
-abbrev pub cone_answer : ConeAnswer → Answer Cone
-cone_answer (Made c) = answered c
-cone_answer (Refused cause) = refused_for cause
 
 -- the sum of the points, from left to right
 unfoldable pub sum_from : Float → Float → Float → List Coo3D → Vect3

@@ -2,22 +2,17 @@
 #![tactic(auto)]
 
 ghost use Rattle.std.specs.Prelude.{◌≡◌, ◌≤◌, take};
-ghost use Rattle.cone.specs.Cone.{cone_answer, bounding_cone_of, gravity_center, center_of, d2_max_of};
+ghost use Rattle.refusal.specs.Answer.{answer_of};
+ghost use Rattle.cone.specs.Cone.{bounding_cone_of, gravity_center, center_of, d2_max_of};
 
 use coo3d::{Coo3D, UnitVect3, Vect3};
-use refusal::{Cause, Outcome};
+use refusal::Cause;
 
 // A centre, and the largest squared chord from it to a point: upstream's radius is 2 asin(sqrt(d2_max) / 2).
 #[derive(Clone, Copy)]
 pub struct Cone {
     pub center: UnitVect3,
     pub d2_max: f64,
-}
-
-#[derive(Clone, Copy)]
-pub enum ConeAnswer {
-    Made(Cone),
-    Refused(Cause),
 }
 
 // The sum of the points, as vectors.
@@ -63,23 +58,23 @@ fn d2_max(center: UnitVect3, points: [Coo3D; 64], count: usize) -> f64
 }
 
 // Not the smallest cone, but one that holds the first `count` points, of which there are 1 to 64.
-pub fn bounding_cone(points: [Coo3D; 64], count: usize) -> ConeAnswer
-    ensures { cone_answer result ≡ bounding_cone_of points count }
+pub fn bounding_cone(points: [Coo3D; 64], count: usize) -> Result<Cone, Cause>
+    ensures { answer_of result ≡ bounding_cone_of points count }
 {
     let checked = domain::check_points(points, count);
     let outcome = checked.outcome;
     match outcome {
-        Outcome::Refused(cause) => ConeAnswer::Refused(cause),
-        Outcome::Done => {
+        Err(cause) => Err(cause),
+        Ok(()) => {
             let ps = checked.points;
             let center = center_of(gravity_center(ps, count));
             if center.is_finite() {
-                ConeAnswer::Made(Cone {
+                Ok(Cone {
                     center,
                     d2_max: d2_max(center, ps, count),
                 })
             } else {
-                ConeAnswer::Refused(Cause::NotFinite)
+                Err(Cause::NotFinite)
             }
         }
     }

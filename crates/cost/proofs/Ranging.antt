@@ -10,7 +10,7 @@ use Rattle.coo3d.specs.declared.Coo3D.{Coo3D}
 use Rattle.domain.specs.Checks.{point_at}
 use Rattle.lists.specs.Counts.{exactly_one, odd_many, how_many}
 use Rattle.lists.proofs.Many.{many_turn, many_done}
-use Rattle.refusal.specs.Answer.{answered, refused, decision_answer}
+use Rattle.refusal.specs.Answer.{answered, refused, answer_of}
 use Rattle.region.specs.declared.Region.{Region}
 use Rattle.region.specs.Edges.{Edge, is_in_range, is_counted}
 use Rattle.region.specs.Region.{contains_of}
@@ -24,10 +24,10 @@ use Rattle.cost.specs.RangeCount.{range_count_of, number_or0, Ranged}
 
 -- ---- the answer
 
-pub not_ranged : (a : RangedDecision) (v : View) (p : Coo3D) (k : ℕ) (vs : List ℕ) → contains_of v p ≡ refused k vs → range_count_of v p ≡ refused k vs → (decision_answer a.decision ≡ refused k vs) × (a.in_range ≡ 0) → Ranged a v p
+pub not_ranged : (a : RangedDecision) (v : View) (p : Coo3D) (k : ℕ) (vs : List ℕ) → contains_of v p ≡ refused k vs → range_count_of v p ≡ refused k vs → (answer_of a.decision ≡ refused k vs) × (a.in_range ≡ 0) → Ranged a v p
 not_ranged a v p k vs e f h = record { decision = h.0 ∙ sym e; in_range = h.1 ∙ ap number_or0 (sym f) }
 
-pub ranged : (a : RangedDecision) (v : View) (p q : Coo3D) (b : Bool) → (v.count ≡ 0 → ⊥) → v.count ≤ 64 → answered q ≡ point_at 0 p → decision_answer a.decision ≡ answered b → (b ≡ contained q v) × (a.in_range ≡ in_range_count q v) → Ranged a v p
+pub ranged : (a : RangedDecision) (v : View) (p q : Coo3D) (b : Bool) → (v.count ≡ 0 → ⊥) → v.count ≤ 64 → answered q ≡ point_at 0 p → answer_of a.decision ≡ answered b → (b ≡ contained q v) × (a.in_range ≡ in_range_count q v) → Ranged a v p
 unfolding contains_of range_count_of in_range_count
 ranged a v p q b some few e d h =
     record {

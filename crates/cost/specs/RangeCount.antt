@@ -3,7 +3,7 @@
 use Rattle.std.specs.Prelude.{ℕ, ◌≡◌}
 use Rattle.coo3d.specs.declared.Coo3D.{Coo3D}
 use Rattle.domain.specs.Checks.{point_at, with_count}
-use Rattle.refusal.specs.Answer.{Answer, answered, refused, and_then, decision_answer}
+use Rattle.refusal.specs.Answer.{Answer, answered, refused, and_then, answer_of}
 use Rattle.region.specs.Region.{contains_of}
 use Rattle.region.specs.View.{View, in_range_count}
 use Rattle.cost.specs.declared.RangedDecision.{RangedDecision}
@@ -19,5 +19,5 @@ number_or0 (refused number values) = 0
 
 -- a call's answer, a decision beside a number, is this one: the decision and the refusals are those of `contains`
 pub record Ranged (a : RangedDecision) (v : View) (p : Coo3D) : Type 0 where
-  pub decision : decision_answer a.decision ≡ contains_of v p
+  pub decision : answer_of a.decision ≡ contains_of v p
   pub in_range : a.in_range ≡ number_or0 (range_count_of v p)

@@ -2,14 +2,13 @@
 #![tactic(auto)]
 
 ghost use Rattle.std.specs.Prelude.{◌≡◌};
-ghost use Rattle.refusal.specs.Answer.{refused_for, decision_answer};
+ghost use Rattle.refusal.specs.Answer.{refused_for, answer_of};
 ghost use Rattle.region.specs.View.{view_of};
 ghost use Rattle.cost.specs.RangeCount.{Ranged};
 ghost use Rattle.cost.specs.Outline.{tooth, saw, abreast, Outlines};
 
 use coo3d::Coo3D;
-use domain::PointCheck;
-use refusal::{Cause, Decision};
+use refusal::Cause;
 use region::{Built, Region};
 
 const DEGREE: f64 = 0.017453292519943295;
@@ -28,7 +27,7 @@ const SIN_60: f64 = 0.8660254037844386;
 // The decision of `region::contains`, and how many edges were in range. Beside a refusal the number is 0.
 #[derive(Clone, Copy)]
 pub struct RangedDecision {
-    pub decision: Decision,
+    pub decision: Result<bool, Cause>,
     pub in_range: usize,
 }
 
@@ -40,10 +39,10 @@ pub struct CostliestOutline {
 }
 
 fn refused(cause: Cause) -> RangedDecision
-    ensures { (decision_answer result.decision ≡ refused_for cause) × (result.in_range ≡ 0) }
+    ensures { (answer_of result.decision ≡ refused_for cause) × (result.in_range ≡ 0) }
 {
     RangedDecision {
-        decision: Decision::Refused(cause),
+        decision: Err(cause),
         in_range: 0,
     }
 }
@@ -59,7 +58,7 @@ pub fn contains_with_range_count(r: Region, coo: Coo3D) -> RangedDecision
     if 64 < count {
         return refused(Cause::TooManyPoints);
     }
-    let PointCheck::Point(p) = domain::check_point(coo, 0) else {
+    let Ok(p) = domain::check_point(coo, 0) else {
         return refused(Cause::OutsideDomain(0));
     };
     let v = p.to_vect3();
@@ -81,7 +80,7 @@ pub fn contains_with_range_count(r: Region, coo: Coo3D) -> RangedDecision
         from = to;
         i += 1;
     }
-    let decision = refusal::decide(is_inside);
+    let decision = Ok(is_inside);
     RangedDecision { decision, in_range }
 }
 

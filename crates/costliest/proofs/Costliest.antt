@@ -4,6 +4,7 @@ use native.Mathlib.Omega.{arith}
 use mathlib.Core.Path.{◌≡◌, refl, sym, ap, subst, ◌∙◌}
 use mathlib.Core.Bool.{Bool, true, false, cond, true≢false, false≢true}
 use lib.ListN.{take}
+use Rattle.std.specs.declared.result.Result.TheVariants.{Ok}
 use Rattle.coo3d.specs.declared.Coo3D.{Coo3D}
 use Rattle.coo3d.specs.Points.{are_doubles}
 use Rattle.cost.specs.declared.CostliestOutline.{CostliestOutline}
@@ -17,7 +18,6 @@ use Rattle.domain.proofs.Handed.{settled_in}
 use Rattle.lists.specs.Counts.{is_odd}
 use Rattle.making.specs.Made.{Made, built}
 use Rattle.refusal.specs.Answer.{answered}
-use Rattle.refusal.specs.declared.Outcome.TheVariants.{Done}
 use Rattle.region.specs.declared.Built.{Built}
 use Rattle.region.specs.declared.ContainsSouthPoleMethod.TheVariants.{DoNotContainsSouthPole}
 use Rattle.region.specs.declared.Region.{Region}
@@ -30,7 +30,7 @@ use Rattle.costliest.specs.Costliest.{Costliest}
 use Rattle.costliest.proofs.Numbers.{at_most, odd_at_most}
 use Rattle.costliest.proofs.Outline as outline
 
-made_of : (n : ℕ) (b : Built) → are_doubles (take n saw) ≡ true → Builds b (outline_of n) → b.outcome ≡ Done → Made b.region
+made_of : (n : ℕ) (b : Built) → are_doubles (take n saw) ≡ true → Builds b (outline_of n) → b.outcome ≡ Ok tt → Made b.region
 unfolding outline_of
 made_of n b d h e = built saw n DoNotContainsSouthPole b d h e
 

@@ -1,42 +1,33 @@
 -- Answers of the queries: document 01, 'Queries'. An edge gives a crossing or none; a first answer is the first, an all-answer the list.
-use Rattle.std.specs.Prelude.{◌-◌, ◌≡◌, Bool, true, false, not, ◌&&◌, List, [], ◌∷◌, ◌++◌, length, replicate}
+use Rattle.refusal.specs.declared.Cause.{Cause}
+use Rattle.std.specs.Prelude.{Result, Ok, Err, ◌-◌, ◌≡◌, Bool, true, false, not, ◌&&◌, List, [], ◌∷◌, ◌++◌, length, replicate, Option, Some, None}
 use Rattle.coo3d.specs.declared.UnitVect3.{UnitVect3}
 use Rattle.coo3d.specs.Vectors.{is_finite_unit}
 use Rattle.float.specs.Doubles.{nought}
 use Rattle.refusal.specs.Answer.{Answer, answered, refused, refused_for, outcome_of, refuse_if, and_then}
-use Rattle.crossings.specs.declared.Crossing.{Crossing}
-use Rattle.crossings.specs.declared.Crossing.TheVariants as crossing
-use Rattle.crossings.specs.declared.Tested.{Tested}
-use Rattle.crossings.specs.declared.Tested.TheVariants as tested
-use Rattle.crossings.specs.declared.FirstAnswer.{FirstAnswer}
-use Rattle.crossings.specs.declared.FirstAnswer.TheVariants as first
 use Rattle.crossings.specs.declared.Crossings.{Crossings}
 use Rattle.crossings.specs.declared.AllAnswer.{AllAnswer}
 
-abbrev pub tested_answer : Tested → Answer Crossing
-tested_answer (tested.Crossing c) = answered c
-tested_answer (tested.Refused cause) = refused_for cause
-
 -- a first answer holds no point, or one
-abbrev pub first_answer : FirstAnswer → Answer (List UnitVect3)
-first_answer first.None = answered []
-first_answer (first.At p) = answered (p ∷ [])
-first_answer (first.Refused cause) = refused_for cause
+abbrev pub first_answer : Result (Option UnitVect3) Cause → Answer (List UnitVect3)
+first_answer (Ok None) = answered []
+first_answer (Ok (Some p)) = answered (p ∷ [])
+first_answer (Err cause) = refused_for cause
 
 -- ---- the crossings of edges, in edge order
 
-abbrev pub listed : Crossing → List UnitVect3
-listed crossing.None = []
-listed (crossing.At p) = p ∷ []
+abbrev pub listed : Option UnitVect3 → List UnitVect3
+listed None = []
+listed (Some p) = p ∷ []
 
-unfoldable pub crossings_of : {E : Type 0} → (E → Crossing) → List E → List UnitVect3
+unfoldable pub crossings_of : {E : Type 0} → (E → Option UnitVect3) → List E → List UnitVect3
 crossings_of hit [] = []
 crossings_of hit (e ∷ es) = listed (hit e) ++ crossings_of hit es
 
 -- a crossing to be answered that isn't finite is 6
-abbrev pub tested_of : Crossing → Answer Crossing
-tested_of crossing.None = answered crossing.None
-tested_of (crossing.At p) = refuse_if (not (is_finite_unit p)) 6 [] (answered (crossing.At p))
+abbrev pub tested_of : Option UnitVect3 → Answer (Option UnitVect3)
+tested_of None = answered None
+tested_of (Some p) = refuse_if (not (is_finite_unit p)) 6 [] (answered (Some p))
 
 unfoldable pub all_finite : List UnitVect3 → Bool
 all_finite [] = true

@@ -3,32 +3,11 @@
 #![tactic(auto)]
 
 ghost use Rattle.std.specs.Prelude.{◌≡◌};
-ghost use Rattle.refusal.specs.Answer.{refused_for, decision_answer};
-ghost use Rattle.crossings.specs.Crossings.{zeros, tested_answer, tested_of, first_answer, intersecting_of, Lists};
+ghost use Rattle.refusal.specs.Answer.{refused_for, answer_of};
+ghost use Rattle.crossings.specs.Crossings.{zeros, tested_of, first_answer, intersecting_of, Lists};
 
 use coo3d::UnitVect3;
-use refusal::{Cause, Decision, Outcome};
-
-// Where an edge is crossed, if it is.
-#[derive(Clone, Copy)]
-pub enum Crossing {
-    None,
-    At(UnitVect3),
-}
-
-// A crossing to be answered, which has to be finite.
-#[derive(Clone, Copy)]
-pub enum Tested {
-    Crossing(Crossing),
-    Refused(Cause),
-}
-
-#[derive(Clone, Copy)]
-pub enum FirstAnswer {
-    None,
-    At(UnitVect3),
-    Refused(Cause),
-}
+use refusal::Cause;
 
 // The first `len` points, in the order of their edges; the others are zero.
 #[derive(Clone, Copy)]
@@ -41,7 +20,7 @@ pub struct Crossings {
 #[derive(Clone, Copy)]
 pub struct AllAnswer {
     pub crossings: Crossings,
-    pub outcome: Outcome,
+    pub outcome: Result<(), Cause>,
 }
 
 pub fn no_points() -> [UnitVect3; 64]
@@ -60,32 +39,28 @@ pub fn refused(cause: Cause) -> AllAnswer
     let points = no_points();
     AllAnswer {
         crossings: Crossings { points, len: 0 },
-        outcome: Outcome::Refused(cause),
+        outcome: Err(cause),
     }
 }
 
-pub fn test_finite(crossing: Crossing) -> Tested
-    ensures { tested_answer result ≡ tested_of crossing }
+pub fn test_finite(crossing: Option<UnitVect3>) -> Result<Option<UnitVect3>, Cause>
+    ensures { answer_of result ≡ tested_of crossing }
 {
     match crossing {
-        Crossing::At(p) => {
+        Some(p) => {
             if p.is_finite() {
-                Tested::Crossing(crossing)
+                Ok(crossing)
             } else {
-                Tested::Refused(Cause::NotFinite)
+                Err(Cause::NotFinite)
             }
         }
-        Crossing::None => Tested::Crossing(crossing),
+        None => Ok(crossing),
     }
 }
 
 // Yes exactly where the first answer is a point; its refusal is passed on.
-pub fn is_intersecting(first: FirstAnswer) -> Decision
-    ensures { decision_answer result ≡ intersecting_of (first_answer first) }
+pub fn is_intersecting(first: Result<Option<UnitVect3>, Cause>) -> Result<bool, Cause>
+    ensures { answer_of result ≡ intersecting_of (first_answer first) }
 {
-    match first {
-        FirstAnswer::At(_) => Decision::Yes,
-        FirstAnswer::None => Decision::No,
-        FirstAnswer::Refused(cause) => Decision::Refused(cause),
-    }
+    Ok(first?.is_some())
 }

@@ -20,6 +20,12 @@ module _ {A : Type 0} (n : ℕ) (next : Answer A) where
   pub count_few : (n ≡ 0 → ⊥) → n ≤ 64 → with_count n next ≡ next
   count_few z h = simp (ne_eqb _ _ z, le-ltb _ _ h)
 
+  pub count_in : (0 < n) × (n ≤ 64) → with_count n next ≡ next
+  count_in r = count_few (λ (z : n ≡ 0). none z r.0) r.1
+    where
+      none : n ≡ 0 → 0 < n → ⊥
+      none z p = omega arith
+
   pub count_answered : (a : A) → with_count n next ≡ answered a → (0 < n) × (n ≤ 64)
   count_answered a = go (eqb n 0) (ltb 64 n) refl refl
     where
@@ -32,12 +38,7 @@ module _ {A : Type 0} (n : ℕ) (next : Answer A) where
       go false false p q e = (pos_of_ne n (eqb-false n 0 p), ltb-false 64 n q)
 
   pub count_passed : (a : A) → with_count n next ≡ answered a → next ≡ answered a
-  count_passed a e =
-      let r = count_answered a e in
-      sym (count_few (λ (z : n ≡ 0). none z r.0) r.1) ∙ e
-    where
-      none : n ≡ 0 → 0 < n → ⊥
-      none z p = omega arith
+  count_passed a e = sym (count_in (count_answered a e)) ∙ e
 
 -- a test of the count that refuses does so whatever would follow
 pub count_only : {A B : Type 0} (n : ℕ) (a : A) (next : Answer B) (k : ℕ) (vs : List ℕ) → with_count n (answered a) ≡ refused k vs → with_count n next ≡ refused k vs
@@ -47,3 +48,7 @@ count_only {A} {B} n a next k vs = go (eqb n 0) (ltb 64 n)
     go true c e = ap (λ (x : Answer A). and_then x (λ y. next)) e
     go false true e = ap (λ (x : Answer A). and_then x (λ y. next)) e
     go false false e = never (sym e)
+
+-- a count that the check refuses, as a caller's refusal
+pub count_refused : {A B : Type 0} (n : ℕ) (a : A) (next : Answer B) {k : ℕ} {vs : List ℕ} → refused k vs ≡ with_count n (answered a) → refused k vs ≡ with_count n next
+count_refused n a next e = sym (count_only n a next _ _ (sym e))

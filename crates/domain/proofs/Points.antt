@@ -50,10 +50,10 @@ module _ (l : List Coo3D) (n i : ℕ) (out : List Coo3D) (d : Coo3D) (long : n �
       ∙ then_assoc (points_from (i + 1) (drop (i + 1) (take n l))) (λ qs. answered (q ∷ qs)) (λ qs. answered (take i out ++ qs))
       ∙ then_same (points_from (i + 1) (drop (i + 1) (take n l))) (λ qs. answered (take i out ++ (q ∷ qs))) (λ qs. answered (take (i + 1) (set out i q) ++ qs)) (λ qs. ap answered (sym (stored out i q qs room)))
 
-  pub far_bad : (k : ℕ) (vs : List ℕ) → refused k vs ≡ point_at i (get_or l i d) → so_far l n i out ≡ refused 1 (i ∷ [])
+  pub far_bad : (k : ℕ) (vs : List ℕ) → refused k vs ≡ point_at i (get_or l i d) → so_far l n i out ≡ refused k vs
   unfolding so_far
   far_bad k vs e =
-      let one : points_from i (drop i (take n l)) ≡ refused 1 (i ∷ []) = next ∙ rw (point_refused i (get_or l i d) k vs e) in
+      let one : points_from i (drop i (take n l)) ≡ refused k vs = next ∙ rw (sym e) in
       ap (λ (x : Answer (List Coo3D)). and_then x (λ qs. answered (take i out ++ qs))) one
 
 pub far_end : (l : List Coo3D) (n i : ℕ) (out : List Coo3D) → n ≤ length l → i ≡ n → so_far l n i out ≡ answered (take n out)

@@ -1,24 +1,11 @@
 -- What the checks answer.
-use Rattle.std.specs.Prelude.{ℕ, suc, ◌≡◌, not, List, [], ◌∷◌, eqb, ltb, take}
+use Rattle.std.specs.Prelude.{ℕ, suc, ◌≡◌, not, List, [], ◌∷◌, eqb, ltb, take, Err}
 use Rattle.coo3d.specs.declared.Coo3D.{Coo3D}
 use Rattle.coo3d.specs.declared.Vect3.{Vect3}
-use Rattle.refusal.specs.Answer.{Answer, answered, refused_for, refuse_if, and_then, outcome_of}
+use Rattle.refusal.specs.Answer.{Answer, answered, refuse_if, and_then, outcome_of}
 use Rattle.refusal.specs.declared.Cause.{Cause}
-use Rattle.refusal.specs.declared.Outcome.TheVariants.{Refused}
-use Rattle.domain.specs.declared.PointCheck.{PointCheck}
-use Rattle.domain.specs.declared.PointCheck.TheVariants as point
 use Rattle.domain.specs.declared.PointsCheck.{PointsCheck}
-use Rattle.domain.specs.declared.VectorCheck.{VectorCheck}
-use Rattle.domain.specs.declared.VectorCheck.TheVariants as vector
 use Rattle.domain.specs.Domain.{in_domain, vector_in_domain}
-
-abbrev pub point_answer : PointCheck → Answer Coo3D
-point_answer (point.Point p) = answered p
-point_answer (point.Refused cause) = refused_for cause
-
-abbrev pub vector_answer : VectorCheck → Answer Vect3
-vector_answer (vector.Vector v) = answered v
-vector_answer (vector.Refused cause) = refused_for cause
 
 -- the point as it is, its -0 kept; outside the domain 1, with its index
 unfoldable pub point_at : ℕ → Coo3D → Answer Coo3D
@@ -43,4 +30,4 @@ points_of points count = with_count count (points_from 0 (take count points))
 -- a call's answer, points beside an outcome, is what the check gives: the first `count` where it is done; a refusal leaves all points as they were
 pub record PointsChecked (points : List Coo3D) (count : ℕ) (r : PointsCheck) : Type 0 where
   pub answer : outcome_of r.outcome (take count r.points) ≡ points_of points count
-  pub kept : (cause : Cause) → r.outcome ≡ Refused cause → r.points ≡ points
+  pub kept : (cause : Cause) → r.outcome ≡ Err cause → r.points ≡ points

@@ -1,30 +1,19 @@
 // Which points and vectors a call takes. Upstream takes any.
 #![tactic(auto)]
 
-ghost use Rattle.std.specs.Prelude.{◌≡◌};
+ghost use Rattle.std.specs.Prelude.{◌≡◌, not, [], ◌∷◌, ◌<◌, ◌≤◌, OnOk};
+ghost use Rattle.refusal.specs.Answer.{answered, refuse_if, answer_of};
 ghost use Rattle.domain.specs.Domain.{in_domain, vector_in_domain};
-ghost use Rattle.domain.specs.Checks.{point_answer, point_at, vector_answer, vector_at, PointsChecked};
+ghost use Rattle.domain.specs.Checks.{point_at, vector_at, with_count, PointsChecked};
 
 use coo3d::{Coo3D, Vect3};
-use refusal::{Cause, Outcome};
-
-#[derive(Clone, Copy)]
-pub enum PointCheck {
-    Point(Coo3D),
-    Refused(Cause),
-}
-
-#[derive(Clone, Copy)]
-pub enum VectorCheck {
-    Vector(Vect3),
-    Refused(Cause),
-}
+use refusal::Cause;
 
 // The points that were checked are the first `count` of `points`, and the others are free. A refusal leaves all as they were given.
 #[derive(Clone, Copy)]
 pub struct PointsCheck {
     pub points: [Coo3D; 64],
-    pub outcome: Outcome,
+    pub outcome: Result<(), Cause>,
 }
 
 fn in_domain(p: Coo3D) -> bool
@@ -43,58 +32,68 @@ fn vector_in_domain(v: Vect3) -> bool
     float::within(-2.0, v.x, 2.0) & float::within(-2.0, v.y, 2.0) & float::within(-2.0, v.z, 2.0)
 }
 
-// The point, or a refusal with the index that the caller numbers it by. Callers go on with the point that is handed back.
-pub fn check_point(p: Coo3D, index: usize) -> PointCheck
-    ensures { point_answer result ≡ point_at index p }
+// A value of its domain, or a refusal with the index.
+fn if_inside<T: Drop>(value: T, is_inside: bool, index: usize) -> Result<T, Cause>
+    ensures { answer_of result ≡ refuse_if (not is_inside) 1 (index ∷ []) (answered value) }
 {
-    if in_domain(p) {
-        PointCheck::Point(p)
+    if is_inside {
+        Ok(value)
     } else {
-        PointCheck::Refused(Cause::OutsideDomain(index))
+        Err(Cause::OutsideDomain(index))
     }
 }
 
-pub fn check_vector(v: Vect3, index: usize) -> VectorCheck
-    ensures { vector_answer result ≡ vector_at index v }
+// The point, or a refusal with the index that the caller numbers it by. Callers go on with the point that is handed back.
+pub fn check_point(p: Coo3D, index: usize) -> Result<Coo3D, Cause>
+    ensures { answer_of result ≡ point_at index p }
 {
-    if vector_in_domain(v) {
-        VectorCheck::Vector(v)
-    } else {
-        VectorCheck::Refused(Cause::OutsideDomain(index))
+    if_inside(p, in_domain(p), index)
+}
+
+pub fn check_vector(v: Vect3, index: usize) -> Result<Vect3, Cause>
+    ensures { answer_of result ≡ vector_at index v }
+{
+    if_inside(v, vector_in_domain(v), index)
+}
+
+// The number of a region's corners, or of points.
+pub fn check_count(count: usize) -> Result<(), Cause>
+    ensures answer { answer_of result ≡ with_count count (answered tt) }
+    ensures few { OnOk result ((0 < count) × (count ≤ 64)) }
+{
+    if count == 0 {
+        return Err(Cause::NoPoint);
     }
+    if count > 64 {
+        return Err(Cause::TooManyPoints);
+    }
+    Ok(())
 }
 
 // The first `count` points, of which there are 1 to 64, each checked and numbered from 0.
 pub fn check_points(points: [Coo3D; 64], count: usize) -> PointsCheck
     ensures { PointsChecked points count result }
 {
-    if count == 0 {
+    if let Err(cause) = check_count(count) {
         return PointsCheck {
             points,
-            outcome: Outcome::Refused(Cause::NoPoint),
-        };
-    }
-    if count > 64 {
-        return PointsCheck {
-            points,
-            outcome: Outcome::Refused(Cause::TooManyPoints),
+            outcome: Err(cause),
         };
     }
     let mut out = points;
-    let mut i: usize = 0;
-    while i < count {
-        let p = points[i];
-        let PointCheck::Point(q) = check_point(p, i) else {
-            return PointsCheck {
-                points,
-                outcome: Outcome::Refused(Cause::OutsideDomain(i)),
-            };
-        };
-        out[i] = q;
-        i += 1;
+    for i in 0..count {
+        match check_point(points[i], i) {
+            Ok(p) => out[i] = p,
+            Err(cause) => {
+                return PointsCheck {
+                    points,
+                    outcome: Err(cause),
+                };
+            }
+        }
     }
     PointsCheck {
         points: out,
-        outcome: Outcome::Done,
+        outcome: Ok(()),
     }
 }

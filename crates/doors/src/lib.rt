@@ -2,12 +2,12 @@
 #![tactic(auto)]
 
 ghost use Rattle.std.specs.Prelude.{◌≡◌, ◌+◌};
-ghost use Rattle.refusal.specs.Answer.{decision_answer};
+ghost use Rattle.refusal.specs.Answer.{answer_of};
 ghost use Rattle.refusal.specs.Table.{number_of};
 ghost use Rattle.doors.specs.Doors.{code_of, in_or_out, outcome_code, contains_code, hold_code, held_file};
 
 use coo3d::Coo3D;
-use refusal::{Cause, Decision, Outcome};
+use refusal::Cause;
 
 fn refusal_code(cause: Cause) -> u32
     ensures { result ≡ 16 + number_of cause }
@@ -15,22 +15,22 @@ fn refusal_code(cause: Cause) -> u32
     16 + refusal::number(cause) as u32
 }
 
-fn outcome_code(outcome: Outcome) -> u32
+fn outcome_code(outcome: Result<(), Cause>) -> u32
     ensures { result ≡ outcome_code outcome }
 {
     match outcome {
-        Outcome::Done => 0,
-        Outcome::Refused(cause) => refusal_code(cause),
+        Ok(()) => 0,
+        Err(cause) => refusal_code(cause),
     }
 }
 
-fn decision_code(decision: Decision) -> u32
-    ensures { result ≡ code_of in_or_out (decision_answer decision) }
+fn decision_code(decision: Result<bool, Cause>) -> u32
+    ensures { result ≡ code_of in_or_out (answer_of decision) }
 {
     match decision {
-        Decision::Yes => 1,
-        Decision::No => 0,
-        Decision::Refused(cause) => refusal_code(cause),
+        Ok(true) => 1,
+        Ok(false) => 0,
+        Err(cause) => refusal_code(cause),
     }
 }
 
@@ -40,7 +40,7 @@ pub fn jigwandor_contains(file: &[u8], x: f64, y: f64, z: f64, lon: f64, lat: f6
 {
     let read = region_file::read(file);
     let outcome = read.outcome;
-    let Outcome::Done = outcome else {
+    let Ok(()) = outcome else {
         return outcome_code(outcome);
     };
     let region = read.region;
@@ -54,16 +54,16 @@ pub fn jigwandor_hold(file: &mut [u8], x: f64, y: f64, z: f64, lon: f64, lat: f6
 {
     let read = region_file::read(file);
     let outcome = read.outcome;
-    let Outcome::Done = outcome else {
+    let Ok(()) = outcome else {
         return outcome_code(outcome);
     };
     let region = read.region;
     let held = edits::hold(region, Coo3D { x, y, z, lon, lat });
     let holding = held.outcome;
-    let Outcome::Done = holding else {
+    let Ok(()) = holding else {
         return outcome_code(holding);
     };
     let after = held.region;
-    region_file::set_flag(file, after.contains_south_pole);
+    let _ = region_file::set_flag(file, after.contains_south_pole);
     0
 }

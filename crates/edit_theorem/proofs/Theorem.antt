@@ -3,6 +3,9 @@ use mathlib.Core.Path.{◌≡◌, refl, sym, ap, subst, ◌∙◌}
 use mathlib.Core.Bool.{true}
 use mathlib.Core.List.{List}
 use lib.ListN.{length}
+use Rattle.std.specs.declared.result.Result.{Result}
+use Rattle.std.specs.declared.result.Result.TheVariants.{Ok, Err}
+use Rattle.std.specs.Prelude.{⊤}
 use Rattle.crossings.specs.Crossings.{Lists}
 use Rattle.domain.proofs.Inside.{Good}
 use Rattle.great_circles.specs.Queries.{arc_first_of, arc_all_of, is_intersecting_arc, circle_all_of}
@@ -10,8 +13,6 @@ use Rattle.lists.specs.Counts.{exactly_one}
 use Rattle.parallels.specs.Queries.{parallel_first_of, parallel_all_of, is_intersecting_parallel}
 use Rattle.refusal.specs.Answer.{Answer, answered, refused, and_then, outcome_of, verdict}
 use Rattle.refusal.specs.declared.Cause.{Cause}
-use Rattle.refusal.specs.declared.Outcome.{Outcome}
-use Rattle.refusal.specs.declared.Outcome.TheVariants.{Done, Refused}
 use Rattle.refusal.proofs.Answers.{never}
 use Rattle.region.specs.declared.Region.{Region}
 use Rattle.region.specs.View.{View, view_of, contained}
@@ -46,21 +47,21 @@ agrees s r g v =
 -- ---- one edit
 
 -- what an answer of the table makes of the record `s` and of the view `w` that follows, with the outcome `o`
-pub record Stepped (s : Plain) (x : Answer Edit) (o : Outcome) (w : View) : Type 0 where
+pub record Stepped (s : Plain) (x : Answer Edit) (o : Result ⊤ Cause) (w : View) : Type 0 where
   pub outcome : outcome_of o true ≡ verdict x
   pub good : Good (settled x s).corners
   pub view : w ≡ region_of (settled x s)
 
 module _ (s : Plain) (e : Edit) (w : View) (good : Good s.corners) where
-  stepped : (x : Answer Edit) (o : Outcome) → checked_by s e ≡ x → outcome_of o w ≡ and_then x (λ k. answered (changed k (region_of s)))
-      → ((cause : Cause) → o ≡ Refused cause → w ≡ region_of s) → Stepped s x o w
-  stepped (answered k) Done p a kept =
+  stepped : (x : Answer Edit) (o : Result ⊤ Cause) → checked_by s e ≡ x → outcome_of o w ≡ and_then x (λ k. answered (changed k (region_of s)))
+      → ((cause : Cause) → o ≡ Err cause → w ≡ region_of s) → Stepped s x o w
+  stepped (answered k) (Ok tt) p a kept =
       let l : Legal (length s.corners) e k = legal (length s.corners) k e p in
       let q : w ≡ changed k (region_of s) = cc a in
       record { outcome = refl; good = good_edited e k s l good; view = q ∙ changed_one e k s l }
-  stepped (answered k) (Refused cause) p a kept = never a
-  stepped (refused n vs) Done p a kept = never (sym a)
-  stepped (refused n vs) (Refused cause) p a kept = record { outcome = cc a; good = good; view = kept cause refl }
+  stepped (answered k) (Err cause) p a kept = never a
+  stepped (refused n vs) (Ok tt) p a kept = never (sym a)
+  stepped (refused n vs) (Err cause) p a kept = record { outcome = cc a; good = good; view = kept cause refl }
 
 module _ (s : Plain) (e : Edit) (r : Region) (a : EditAnswer) (good : Good s.corners) (v : view_of r ≡ region_of s) (h : Edited e r a) where
   pub step_of : Stepped s (checked_by s e) a.outcome (view_of a.region)

@@ -1,24 +1,22 @@
 -- The theorem over every list of edits. It speaks of the calls by nothing but their contracts.
-use Rattle.std.specs.Prelude.{ℕ, ◌≡◌, true, false, List, [], ◌∷◌, ◌++◌, Float}
+use Rattle.refusal.specs.declared.Cause.{Cause}
+use Rattle.coo3d.specs.declared.UnitVect3.{UnitVect3}
+use Rattle.std.specs.Prelude.{ℕ, ◌≡◌, true, false, List, [], ◌∷◌, ◌++◌, Float, Option, Result, Ok}
 use Rattle.coo3d.specs.declared.Coo3D.{Coo3D}
 use Rattle.coo3d.specs.declared.Vect3.{Vect3}
 use Rattle.domain.specs.Checks.{point_at, points_of}
-use Rattle.crossings.specs.declared.FirstAnswer.{FirstAnswer}
 use Rattle.crossings.specs.declared.AllAnswer.{AllAnswer}
 use Rattle.crossings.specs.Crossings.{first_answer, Lists}
 use Rattle.great_circles.specs.Queries.{arc_first_of, arc_all_of, is_intersecting_arc, circle_all_of}
 use Rattle.lists.specs.Counts.{exactly_one, odd_many}
 use Rattle.parallels.specs.Queries.{parallel_first_of, parallel_all_of, is_intersecting_parallel}
-use Rattle.refusal.specs.Answer.{Answer, answered, and_then, outcome_of, decision_answer, verdict}
-use Rattle.refusal.specs.declared.Decision.{Decision}
-use Rattle.refusal.specs.declared.Outcome.TheVariants.{Done}
+use Rattle.refusal.specs.Answer.{Answer, answered, and_then, outcome_of, answer_of, verdict}
 use Rattle.region.specs.declared.Region.{Region}
 use Rattle.region.specs.declared.Built.{Built}
-use Rattle.region.specs.declared.CountAnswer.{CountAnswer}
 use Rattle.region.specs.declared.ContainsSouthPoleMethod.{ContainsSouthPoleMethod}
 use Rattle.region.specs.Edges.{is_counted}
 use Rattle.region.specs.View.{View, view_of, made, contained}
-use Rattle.region.specs.Region.{flag_of, build_of, contains_of, seam_count_of, count_answer, Builds}
+use Rattle.region.specs.Region.{flag_of, build_of, contains_of, seam_count_of, Builds}
 use Rattle.edits.specs.declared.EditAnswer.{EditAnswer}
 use Rattle.edits.specs.Edits.{Edit, Edited}
 use Rattle.edit_theorem.specs.Record.{Plain, checked_by, after, moves_corner, taken_out, brought_in, afresh}
@@ -37,15 +35,15 @@ pub record Agrees (s : Plain) (r : Region) : Type 0 where
   pub fresh : View
   pub built : afresh s ≡ answered fresh
   pub view : view_of r ≡ fresh
-  pub contains : (p : Coo3D) (d : Decision) → decision_answer d ≡ contains_of (view_of r) p → decision_answer d ≡ contains_of fresh p
-  pub seam_count : (n : CountAnswer) → count_answer n ≡ seam_count_of (view_of r) → count_answer n ≡ seam_count_of fresh
-  pub arc_first : (a b : Coo3D) (f : FirstAnswer) → first_answer f ≡ arc_first_of (view_of r) a b → first_answer f ≡ arc_first_of fresh a b
+  pub contains : (p : Coo3D) (d : Result Bool Cause) → answer_of d ≡ contains_of (view_of r) p → answer_of d ≡ contains_of fresh p
+  pub seam_count : (n : Result ℕ Cause) → answer_of n ≡ seam_count_of (view_of r) → answer_of n ≡ seam_count_of fresh
+  pub arc_first : (a b : Coo3D) (f : Result (Option UnitVect3) Cause) → first_answer f ≡ arc_first_of (view_of r) a b → first_answer f ≡ arc_first_of fresh a b
   pub arc_all : (a b : Coo3D) (l : AllAnswer) → Lists l (arc_all_of (view_of r) a b) → Lists l (arc_all_of fresh a b)
-  pub arc_is : (a b : Coo3D) (d : Decision) → decision_answer d ≡ is_intersecting_arc (view_of r) a b → decision_answer d ≡ is_intersecting_arc fresh a b
+  pub arc_is : (a b : Coo3D) (d : Result Bool Cause) → answer_of d ≡ is_intersecting_arc (view_of r) a b → answer_of d ≡ is_intersecting_arc fresh a b
   pub circle : (n : Vect3) (l : AllAnswer) → Lists l (circle_all_of (view_of r) n) → Lists l (circle_all_of fresh n)
-  pub parallel_first : (lat sin cos : Float) (f : FirstAnswer) → first_answer f ≡ parallel_first_of (view_of r) lat sin cos → first_answer f ≡ parallel_first_of fresh lat sin cos
+  pub parallel_first : (lat sin cos : Float) (f : Result (Option UnitVect3) Cause) → first_answer f ≡ parallel_first_of (view_of r) lat sin cos → first_answer f ≡ parallel_first_of fresh lat sin cos
   pub parallel_all : (lat sin cos : Float) (l : AllAnswer) → Lists l (parallel_all_of (view_of r) lat sin cos) → Lists l (parallel_all_of fresh lat sin cos)
-  pub parallel_is : (lat sin cos : Float) (d : Decision) → decision_answer d ≡ is_intersecting_parallel (view_of r) lat sin cos → decision_answer d ≡ is_intersecting_parallel fresh lat sin cos
+  pub parallel_is : (lat sin cos : Float) (d : Result Bool Cause) → answer_of d ≡ is_intersecting_parallel (view_of r) lat sin cos → answer_of d ≡ is_intersecting_parallel fresh lat sin cos
 
 -- put, insert and remove turn a point's containment over exactly when an odd number of edges is counted there among those that they take out
 -- and bring in, taken together; an edge that is both counts twice. The point is the one that the check hands back
@@ -75,6 +73,6 @@ abbrev pub EditTheorem : Type 0
 EditTheorem =
     (points : List Coo3D) (count : ℕ) (rule : ContainsSouthPoleMethod) (b : Built)
     → Builds b (build_of points count rule)
-    → b.outcome ≡ Done
+    → b.outcome ≡ Ok tt
     → (es : List Edit) (last : Region) (run : Run b.region es last)
     → (s : Plain) × ((start_of points count rule ≡ answered s) × Holds b.region last es s run)

@@ -7,16 +7,16 @@ use mathlib.Core.Bool.{Bool, true, false, not, cond}
 use mathlib.Core.List.{List, []}
 use lib.Dec.{eqb, ltb, leb}
 use borrow.Author.Tests.{ltb-true, ltb-false, leb-true, leb-false, eqb-false, not-false, eq-eqb, ne_eqb, le-ltb, lt-ltb}
+use Rattle.std.specs.declared.result.Result.{Result}
+use Rattle.std.specs.declared.result.Result.TheVariants.{Ok, Err}
+use Rattle.std.specs.Result.{MatchResult, IsOkAnd}
 use Rattle.coo3d.specs.declared.Coo3D.{Coo3D}
 use Rattle.domain.specs.Checks.{point_at, with_count}
 use Rattle.domain.proofs.Counts.{count_none, count_many, count_few}
 use Rattle.lists.proofs.Cyclic.{same_or_not}
-use Rattle.refusal.specs.Answer.{Answer, answered, refused, refused_for, refuse_if, and_then, outcome_of, decision_answer}
+use Rattle.refusal.specs.Answer.{Answer, answered, refused, refused_for, refuse_if, and_then, answer_of}
 use Rattle.refusal.specs.declared.Cause.{Cause}
-use Rattle.refusal.specs.declared.Decision.{Decision}
-use Rattle.refusal.specs.declared.Outcome.{Outcome}
-use Rattle.refusal.specs.declared.Outcome.TheVariants.{Done, Refused}
-use Rattle.refusal.proofs.Answers.{not_refused, passed, then_same, then_assoc}
+use Rattle.refusal.proofs.Answers.{not_refused, passed, then_assoc}
 use Rattle.region.specs.declared.Region.{Region}
 use Rattle.region.specs.declared.ContainsSouthPoleMethod.{ContainsSouthPoleMethod}
 use Rattle.region.specs.View.{View, view_of, with_flag, contained}
@@ -28,10 +28,10 @@ use Rattle.edits.specs.Edits.{Edit, put, insert, remove, turn, hold, rule, check
 -- ---- answers
 
 module _ (e : Edit) (r : Region) (a : EditAnswer) where
-  pub refused_edit : (cause : Cause) → a ≡ record { region = r; outcome = Refused cause } → edit_of e (view_of r) ≡ refused_for cause → Edited e r a
+  pub refused_edit : (cause : Cause) → a ≡ record { region = r; outcome = Err cause } → edit_of e (view_of r) ≡ refused_for cause → Edited e r a
   refused_edit cause is t = record { answer = rw (is, t); kept = λ k o. rw is }
 
-  pub done_edit : a.outcome ≡ Done → edit_of e (view_of r) ≡ answered (view_of a.region) → Edited e r a
+  pub done_edit : a.outcome ≡ Ok tt → edit_of e (view_of r) ≡ answered (view_of a.region) → Edited e r a
   done_edit o t = record { answer = rw (o, t); kept = λ cause q. not_refused cause (sym o ∙ q) }
 
 module _ (e : Edit) (v : View) where
@@ -174,46 +174,19 @@ module _ {A : Type 0} (v : View) (k : A → Edit) (of : A → Bool) (flag : Bool
       go false false (refused number values) = refl
 
 module _ (v : View) where
-  hold_by : (p : Coo3D) → edit_of (hold p) v ≡ and_then (contains_of v p) (λ b. answered (with_flag v (cond b v.flag (not v.flag))))
+  pub hold_by : (p : Coo3D) → edit_of (hold p) v ≡ and_then (and_then (contains_of v p) (λ b. answered (cond b v.flag (not v.flag)))) (λ b. answered (with_flag v b))
   unfolding edit_of checked contains_of changed
-  hold_by p = by_flag v hold (λ q. contained q v) (λ b. cond b v.flag (not v.flag)) (λ q. refl) v.count (point_at 0 p)
+  hold_by p =
+      by_flag v hold (λ q. contained q v) (λ b. cond b v.flag (not v.flag)) (λ q. refl) v.count (point_at 0 p)
+      ∙ sym (then_assoc (contains_of v p) (λ b. answered (cond b v.flag (not v.flag))) (λ b. answered (with_flag v b)))
 
-  rule_by : (m : ContainsSouthPoleMethod) → edit_of (rule m) v ≡ and_then (flag_of v m) (λ b. answered (with_flag v b))
+  pub rule_by : (m : ContainsSouthPoleMethod) → edit_of (rule m) v ≡ and_then (flag_of v m) (λ b. answered (with_flag v b))
   unfolding edit_of checked flag_of changed
   rule_by m = by_flag v rule (λ k. rule_flag k v) (λ b. b) (λ k. refl) v.count (rule_at v.count m)
 
-  -- what `flagged` answers by the region's decision is what the edit does
-  pub hold_flagged : (p : Coo3D) (d : Decision) → decision_answer d ≡ contains_of v p → and_then (decision_answer d) (λ b. answered (with_flag v (cond b v.flag (not v.flag)))) ≡ edit_of (hold p) v
-  hold_flagged p d e = rw (hold_by p, e)
-
-  pub rule_flagged : (m : ContainsSouthPoleMethod) (d : Decision) → decision_answer d ≡ flag_of v m → and_then (decision_answer d) (λ b. answered (with_flag v (cond b true false))) ≡ edit_of (rule m) v
-  rule_flagged m d e = ap (λ (x : Answer Bool). and_then x (λ b. answered (with_flag v (cond b true false)))) e ∙ then_same (flag_of v m) _ _ same ∙ sym (rule_by m)
-    where
-      same : (b : Bool) → ◌≡◌ {A = Answer View} (answered (with_flag v (cond b true false))) (answered (with_flag v b))
-      same true = refl
-      same false = refl
-
--- ---- a flag by a decision
-
-pub flag_set : (d : Decision) (in-it out-of-it old b : Bool) → decision_answer d ≡ answered b
-    → (answered (cond b in-it out-of-it) ≡ and_then (decision_answer d) (λ k. answered (cond k in-it out-of-it))) × ((cause : Cause) → Done ≡ Refused cause → cond b in-it out-of-it ≡ old)
-flag_set d in-it out-of-it old b e = (rw e, λ cause q. not_refused cause q)
-
-pub flag_kept : (d : Decision) (in-it out-of-it old : Bool) (cause : Cause) → decision_answer d ≡ refused_for cause
-    → (refused_for cause ≡ and_then (decision_answer d) (λ k. answered (cond k in-it out-of-it))) × ((k : Cause) → Refused cause ≡ Refused k → old ≡ old)
-flag_kept d in-it out-of-it old cause e = (rw e, λ k q. refl)
-
--- and so it is beside the view that has the flag
-pub view_flagged : (v : View) (d : Decision) (in-it out-of-it : Bool) (o : Outcome) (flag : Bool) → outcome_of o flag ≡ and_then (decision_answer d) (λ k. answered (cond k in-it out-of-it))
-    → outcome_of o (with_flag v flag) ≡ and_then (decision_answer d) (λ k. answered (with_flag v (cond k in-it out-of-it)))
-view_flagged v d in-it out-of-it o flag e = beside o ∙ ap (λ (x : Answer Bool). and_then x put_in) e ∙ then_assoc (decision_answer d) (λ k. answered (cond k in-it out-of-it)) put_in
-  where
-    put_in : Bool → Answer View
-    put_in k = answered (with_flag v k)
-
-    beside : (x : Outcome) → outcome_of x (with_flag v flag) ≡ and_then (outcome_of x flag) put_in
-    beside Done = refl
-    beside (Refused cause) = refl
-
-pub flag_back : (r : Region) (flag : Bool) → flag ≡ r.contains_south_pole → record { vertices = r.vertices; cross_products = r.cross_products; count = r.count; contains_south_pole = flag; seam_count = r.seam_count } ≡ r
-flag_back r flag e = rw e
+-- an answer whose result a closure goes over
+pub mapped : {A B : Type 0} (d : Result A Cause) (e : Result B Cause) (post : A → B → Type 0) (f : A → B) → MatchResult d (λ a. IsOkAnd e (post a)) (λ cause. e ≡ Err cause) → ((a : A) (b : B) → post a b → b ≡ f a)
+    → answer_of e ≡ and_then (answer_of d) (λ a. answered (f a))
+mapped (Ok a) (Ok b) post f m h = ap answered (h a b m)
+mapped (Ok a) (Err cause) post f m h = absurd m
+mapped (Err cause) e post f m h = ap answer_of m

@@ -1,11 +1,11 @@
 -- The six edits: document 01, 'Edits and the plain record'. The table is read with a count; then the edit changes a region's view.
+use Rattle.std.specs.declared.result.Result.TheVariants.{Err}
 use Rattle.std.specs.Prelude.{ℕ, ◌≡◌, not, cond, [], eqb, ltb, set}
 use Rattle.coo3d.specs.declared.Coo3D.{Coo3D}
 use Rattle.domain.specs.Checks.{point_at, with_count}
 use Rattle.lists.specs.Cyclic.{ins, del, put_along, ins_along, del_along}
 use Rattle.refusal.specs.Answer.{Answer, answered, refuse_if, and_then, outcome_of}
 use Rattle.refusal.specs.declared.Cause.{Cause}
-use Rattle.refusal.specs.declared.Outcome.TheVariants.{Refused}
 use Rattle.region.specs.declared.Region.{Region}
 use Rattle.region.specs.declared.ContainsSouthPoleMethod.{ContainsSouthPoleMethod}
 use Rattle.region.specs.Edges.{normal_of}
@@ -50,4 +50,4 @@ edit_of e v = and_then (checked v.count e) (λ k. answered (changed k v))
 -- what an edit's answer is: the region beside an outcome; a refusal leaves the region value as it was, all of it
 pub record Edited (e : Edit) (before : Region) (after : EditAnswer) : Type 0 where
   pub answer : outcome_of after.outcome (view_of after.region) ≡ edit_of e (view_of before)
-  pub kept : (cause : Cause) → after.outcome ≡ Refused cause → after.region ≡ before
+  pub kept : (cause : Cause) → after.outcome ≡ Err cause → after.region ≡ before

@@ -6,22 +6,19 @@ ghost use Rattle.std.specs.Prelude.{◌≡◌, cond, not, [], ◌-◌, ◌≤◌
 ghost use Rattle.lists.specs.Cyclic.{prev_of, next_of, there_of};
 ghost use Rattle.region.specs.View.{view_of, with_flag};
 ghost use Rattle.edits.specs.Edits.{Edited, checked};
-ghost use Rattle.domain.specs.Checks.{point_answer, point_at};
-ghost use Rattle.refusal.specs.Answer.{answered, refuse_if, and_then, outcome_of, decision_answer};
-ghost use Rattle.refusal.specs.declared.Cause.{Cause};
-ghost use Rattle.refusal.specs.declared.Outcome.{Outcome};
+ghost use Rattle.domain.specs.Checks.{point_at};
+ghost use Rattle.refusal.specs.Answer.{answered, refuse_if, and_then, outcome_of, answer_of};
 ghost use Rattle.edits.specs.Edits as edit;
 
 use coo3d::Coo3D;
-use domain::PointCheck;
-use refusal::{Cause, Decision, Outcome};
+use refusal::Cause;
 use region::{ContainsSouthPoleMethod, Region};
 
-// The region beside the outcome. A refusal leaves the region as it was.
+// The region beside the outcome. A refusal hands it back as it was, and an enum round it would cost one more copy of its 4 KB.
 #[derive(Clone, Copy)]
 pub struct EditAnswer {
     pub region: Region,
-    pub outcome: Outcome,
+    pub outcome: Result<(), Cause>,
 }
 
 // The index before i, of n.
@@ -49,31 +46,31 @@ fn index_left(n: usize, i: usize) -> usize
 }
 
 fn refused(r: Region, cause: Cause) -> EditAnswer
-    ensures { result ≡ record { region = r; outcome = Outcome.Refused cause } }
+    ensures { result ≡ record { region = r; outcome = Err cause } }
 {
     EditAnswer {
         region: r,
-        outcome: Outcome::Refused(cause),
+        outcome: Err(cause),
     }
 }
 
 // The corner to be set, after the table's tests in their order: the count, the index, the point.
-fn corner_for(count: usize, most: usize, there: bool, corner: Coo3D) -> PointCheck
-    ensures { point_answer result ≡ refuse_if (eqb count 0) 2 [] (refuse_if (ltb most count) 3 [] (refuse_if (not there) 4 [] (point_at 0 corner))) }
+fn corner_for(count: usize, most: usize, there: bool, corner: Coo3D) -> Result<Coo3D, Cause>
+    ensures { answer_of result ≡ refuse_if (eqb count 0) 2 [] (refuse_if (ltb most count) 3 [] (refuse_if (not there) 4 [] (point_at 0 corner))) }
 {
     if count == 0 {
-        return PointCheck::Refused(Cause::NoPoint);
+        return Err(Cause::NoPoint);
     }
     if count > most {
-        return PointCheck::Refused(Cause::TooManyPoints);
+        return Err(Cause::TooManyPoints);
     }
     if !there {
-        return PointCheck::Refused(Cause::NoSuchIndex);
+        return Err(Cause::NoSuchIndex);
     }
-    let PointCheck::Point(p) = domain::check_point(corner, 0) else {
-        return PointCheck::Refused(Cause::OutsideDomain(0));
+    let Ok(p) = domain::check_point(corner, 0) else {
+        return Err(Cause::OutsideDomain(0));
     };
-    PointCheck::Point(p)
+    Ok(p)
 }
 
 // One of two corners.
@@ -92,11 +89,11 @@ pub fn put(r: Region, i: usize, corner: Coo3D) -> EditAnswer
     let check = corner_for(count, 64, i < count, corner);
     let mut region = r;
     match check {
-        PointCheck::Refused(cause) => EditAnswer {
+        Err(cause) => EditAnswer {
             region,
-            outcome: Outcome::Refused(cause),
+            outcome: Err(cause),
         },
-        PointCheck::Point(p) => {
+        Ok(p) => {
             let j = next_index(count, i);
             let h = index_before(count, i);
             let from = region.vertices[h];
@@ -125,7 +122,7 @@ pub fn put(r: Region, i: usize, corner: Coo3D) -> EditAnswer
             }
             EditAnswer {
                 region,
-                outcome: Outcome::Done,
+                outcome: Ok(()),
             }
         }
     }
@@ -141,11 +138,11 @@ pub fn insert(r: Region, i: usize, corner: Coo3D) -> EditAnswer
     let check = corner_for(count, 63, i <= count, corner);
     let mut region = r;
     match check {
-        PointCheck::Refused(cause) => EditAnswer {
+        Err(cause) => EditAnswer {
             region,
-            outcome: Outcome::Refused(cause),
+            outcome: Err(cause),
         },
-        PointCheck::Point(p) => {
+        Ok(p) => {
             let h = index_before(count, i);
             let j = next_index(count + 1, i);
             let from = region.vertices[h];
@@ -190,26 +187,26 @@ pub fn insert(r: Region, i: usize, corner: Coo3D) -> EditAnswer
             region.seam_count = seam_count;
             EditAnswer {
                 region,
-                outcome: Outcome::Done,
+                outcome: Ok(()),
             }
         }
     }
 }
 
 // The table's tests of a remove, in their order.
-fn removable(count: usize, i: usize) -> Outcome
-    ensures { (outcome_of result (edit.remove i) ≡ checked count (edit.remove i)) × (result ≡ Outcome.Done → (i < count) × ((1 < count) × (count ≤ 64))) }
+fn removable(count: usize, i: usize) -> Result<(), Cause>
+    ensures { (outcome_of result (edit.remove i) ≡ checked count (edit.remove i)) × (result ≡ Ok tt → (i < count) × ((1 < count) × (count ≤ 64))) }
 {
     if count <= 1 {
-        return Outcome::Refused(Cause::NoPoint);
+        return Err(Cause::NoPoint);
     }
     if count > 64 {
-        return Outcome::Refused(Cause::TooManyPoints);
+        return Err(Cause::TooManyPoints);
     }
     if i >= count {
-        return Outcome::Refused(Cause::NoSuchIndex);
+        return Err(Cause::NoSuchIndex);
     }
-    Outcome::Done
+    Ok(())
 }
 
 // The normal of the edge that closes the gap is worked out, the others move with their corners, and the seam count is taken anew. Loops and answer
@@ -221,11 +218,11 @@ pub fn remove(r: Region, i: usize) -> EditAnswer
     let outcome = removable(count, i);
     let mut region = r;
     match outcome {
-        Outcome::Refused(cause) => EditAnswer {
+        Err(cause) => EditAnswer {
             region,
-            outcome: Outcome::Refused(cause),
+            outcome: Err(cause),
         },
-        Outcome::Done => {
+        Ok(()) => {
             let j = index_left(count, i);
             let h = index_before(count, i);
             let from = region.vertices[h];
@@ -264,7 +261,7 @@ pub fn remove(r: Region, i: usize) -> EditAnswer
             region.seam_count = seam_count;
             EditAnswer {
                 region,
-                outcome: Outcome::Done,
+                outcome: Ok(()),
             }
         }
     }
@@ -272,13 +269,13 @@ pub fn remove(r: Region, i: usize) -> EditAnswer
 
 // The region with its flag as given.
 fn with_flag(r: Region, flag: bool) -> EditAnswer
-    ensures { (result.outcome ≡ Outcome.Done) × (view_of result.region ≡ with_flag (view_of r) flag) }
+    ensures { (result.outcome ≡ Ok tt) × (view_of result.region ≡ with_flag (view_of r) flag) }
 {
     let mut region = r;
     region.contains_south_pole = flag;
     EditAnswer {
         region,
-        outcome: Outcome::Done,
+        outcome: Ok(()),
     }
 }
 
@@ -295,41 +292,18 @@ pub fn turn(r: Region) -> EditAnswer
     with_flag(r, !r.contains_south_pole)
 }
 
-// A flag beside an outcome.
-#[derive(Clone, Copy)]
-struct Flag {
-    flag: bool,
-    outcome: Outcome,
-}
-
-// The flag that a decision sets; a refusal keeps the old one.
-fn flag_by(d: Decision, yes: bool, no: bool, old: bool) -> Flag
-    ensures { (outcome_of result.outcome result.flag ≡ and_then (decision_answer d) (λ b. answered (cond b yes no))) × ((cause : Cause) → result.outcome ≡ Outcome.Refused cause → result.flag ≡ old) }
+// The region with the flag, where there is one. Its one copy is made where both cases have met.
+fn flagged(r: Region, flag: Result<bool, Cause>) -> EditAnswer
+    ensures { (outcome_of result.outcome (view_of result.region) ≡ and_then (answer_of flag) (λ b. answered (with_flag (view_of r) b))) × ((cause : Cause) → result.outcome ≡ Err cause → result.region ≡ r) }
 {
-    match d {
-        Decision::Yes => Flag {
-            flag: yes,
-            outcome: Outcome::Done,
-        },
-        Decision::No => Flag {
-            flag: no,
-            outcome: Outcome::Done,
-        },
-        Decision::Refused(cause) => Flag {
-            flag: old,
-            outcome: Outcome::Refused(cause),
-        },
-    }
-}
-
-// The region with the flag that a decision sets. Its one copy is made where all cases have met.
-fn flagged(r: Region, d: Decision, yes: bool, no: bool) -> EditAnswer
-    ensures { (outcome_of result.outcome (view_of result.region) ≡ and_then (decision_answer d) (λ b. answered (with_flag (view_of r) (cond b yes no)))) × ((cause : Cause) → result.outcome ≡ Outcome.Refused cause → result.region ≡ r) }
-{
-    let by = flag_by(d, yes, no, r.contains_south_pole);
-    let outcome = by.outcome;
     let mut region = r;
-    region.contains_south_pole = by.flag;
+    let outcome = match flag {
+        Ok(is_set) => {
+            region.contains_south_pole = is_set;
+            Ok(())
+        }
+        Err(cause) => Err(cause),
+    };
     EditAnswer { region, outcome }
 }
 
@@ -338,11 +312,14 @@ pub fn hold(r: Region, coo: Coo3D) -> EditAnswer
     ensures { Edited (edit.hold coo) r result }
 {
     let flag = r.contains_south_pole;
-    flagged(r, region::contains(r, coo), flag, !flag)
+    flagged(
+        r,
+        region::contains(r, coo).map(|is_inside| if is_inside { flag } else { !flag }),
+    )
 }
 
 // The same on a lent region, which a refusal leaves as it was.
-pub fn hold_lent(r: &mut Region, coo: Coo3D) -> Outcome
+pub fn hold_lent(r: &mut Region, coo: Coo3D) -> Result<(), Cause>
     ensures { Edited (edit.hold coo) r.old (record { region = r.new; outcome = result }) }
 {
     let answer = hold(*r, coo);
@@ -354,5 +331,5 @@ pub fn hold_lent(r: &mut Region, coo: Coo3D) -> Outcome
 pub fn rule(r: Region, method: ContainsSouthPoleMethod) -> EditAnswer
     ensures { Edited (edit.rule method) r result }
 {
-    flagged(r, region::contains_south_pole(r, method), true, false)
+    flagged(r, region::contains_south_pole(r, method))
 }

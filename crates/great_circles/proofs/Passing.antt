@@ -6,13 +6,13 @@ use mathlib.Core.Bool.{Bool, true, false, ◌&&◌, cond}
 use mathlib.Core.List.{List, [], ◌∷◌}
 use lib.Ieee.{Float, lt}
 use lib.ListN.{length, get_or}
+use Rattle.std.specs.declared.option.Option.{Option}
+use Rattle.std.specs.declared.option.Option.TheVariants.{None}
 use Rattle.coo3d.specs.declared.Coo3D.{Coo3D}
 use Rattle.coo3d.specs.declared.UnitVect3.{UnitVect3}
 use Rattle.coo3d.specs.declared.Vect3.{Vect3}
 use Rattle.coo3d.proofs.Products.{dot_comm}
 use Rattle.coo3d.specs.Vectors.{vect_of_point, vect_of_unit, dot_of}
-use Rattle.crossings.specs.declared.Crossing.{Crossing}
-use Rattle.crossings.specs.declared.Crossing.TheVariants.{None}
 use Rattle.float.specs.Doubles.{nought, abs_of, max_of}
 use Rattle.lists.specs.Counts.{exactly_one}
 use Rattle.region.specs.Edges.{Edge}
@@ -113,5 +113,5 @@ module _ {a b : Coo3D} {e : Edge} {over : Bool} {va vb : Vect3} (n : Numbers a b
     pub one_side : exactly_one (lt nought ha) (lt nought hb) ≡ false → None ≡ arc_crossing a b e
     one_side h = sym (by_heights ∙ rw h)
 
-    pub crossed : exactly_one (lt nought ha) (lt nought hb) ≡ true → {c : Crossing} → c ≡ in_edge (intersect_point a b ha hb) e.from e.to → c ≡ arc_crossing a b e
+    pub crossed : exactly_one (lt nought ha) (lt nought hb) ≡ true → {c : Option UnitVect3} → c ≡ in_edge (intersect_point a b ha hb) e.from e.to → c ≡ arc_crossing a b e
     crossed h q = q ∙ sym (by_heights ∙ rw h)

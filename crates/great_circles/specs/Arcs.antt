@@ -1,12 +1,12 @@
 -- Where an edge crosses a great circle arc: upstream's `intersect_great_circle_arc`, for one edge.
+use Rattle.std.specs.declared.option.Option.{Option}
+use Rattle.std.specs.declared.option.Option.TheVariants.{None, Some}
 use Rattle.std.specs.Prelude.{Bool, true, ◌&&◌, ◌||◌, cond, Float}
 use Rattle.std.specs.Float.Ieee.{lt, le}
 use Rattle.coo3d.specs.declared.Coo3D.{Coo3D}
 use Rattle.coo3d.specs.declared.Vect3.{Vect3}
 use Rattle.coo3d.specs.declared.UnitVect3.{UnitVect3}
 use Rattle.coo3d.specs.Vectors.{vect_of_point, vect_of_unit, dot_of, normalized_of}
-use Rattle.crossings.specs.declared.Crossing.{Crossing}
-use Rattle.crossings.specs.declared.Crossing.TheVariants.{None, At}
 use Rattle.float.specs.Doubles.{◌⊖◌, ◌⊗◌, nought, pi, abs_of}
 use Rattle.lists.specs.Counts.{exactly_one}
 use Rattle.region.specs.Edges.{Edge}
@@ -36,13 +36,13 @@ intersect_point a b ua ub =
     })
 
 -- the point, where the edge's ends are nearer to it, or to its opposite, than to each other
-unfoldable pub in_edge : UnitVect3 → Coo3D → Coo3D → Crossing
+unfoldable pub in_edge : UnitVect3 → Coo3D → Coo3D → Option UnitVect3
 in_edge i pa pb =
     let papb = dot_of (vect_of_point pa) (vect_of_point pb) in
-    cond (lt papb (abs_of (dot_of (vect_of_point pa) (vect_of_unit i))) && lt papb (abs_of (dot_of (vect_of_point pb) (vect_of_unit i)))) (At i) None
+    cond (lt papb (abs_of (dot_of (vect_of_point pa) (vect_of_unit i))) && lt papb (abs_of (dot_of (vect_of_point pb) (vect_of_unit i)))) (Some i) None
 
 -- the longitudes overlap, and the arc's ends lie on both sides of the edge's plane
-unfoldable pub crossing_of : Coo3D → Coo3D → Coo3D → Coo3D → Vect3 → Crossing
+unfoldable pub crossing_of : Coo3D → Coo3D → Coo3D → Coo3D → Vect3 → Option UnitVect3
 crossing_of a b pa pb n =
     let ua = dot_of (vect_of_point a) n in
     let ub = dot_of (vect_of_point b) n in
@@ -51,5 +51,5 @@ crossing_of a b pa pb n =
     None
 
 -- an arc from west to east with an edge
-unfoldable pub arc_crossing : Coo3D → Coo3D → Edge → Crossing
+unfoldable pub arc_crossing : Coo3D → Coo3D → Edge → Option UnitVect3
 arc_crossing a b e = crossing_of a b (west_of e.from e.to) (east_of e.from e.to) e.normal

@@ -4,7 +4,7 @@
 ghost use Rattle.std.specs.Prelude.{◌≡◌, cond};
 ghost use Rattle.std.specs.Float.Ieee.{lt};
 ghost use Rattle.coo3d.specs.Vectors.{dot_of};
-ghost use Rattle.refusal.specs.Answer.{decision_answer};
+ghost use Rattle.refusal.specs.Answer.{answer_of};
 ghost use Rattle.region.specs.View.{view_of};
 ghost use Rattle.crossings.specs.Crossings.{first_answer, Lists};
 ghost use Rattle.great_circles.specs.Arcs.{west_of, east_of, overlap_in_lon, intersect_point, in_edge};
@@ -12,9 +12,8 @@ ghost use Rattle.great_circles.specs.Circles.{is_beyond, circle_crossing};
 ghost use Rattle.great_circles.specs.Queries.{arc_first_of, arc_all_of, is_intersecting_arc, circle_all_of};
 
 use coo3d::{Coo3D, UnitVect3, Vect3};
-use crossings::{AllAnswer, Crossing, Crossings, FirstAnswer, Tested};
-use domain::{PointCheck, VectorCheck};
-use refusal::{Cause, Decision, Outcome};
+use crossings::{AllAnswer, Crossings};
+use refusal::Cause;
 use region::Region;
 
 // Of two points, the one with the lower longitude, and the other.
@@ -67,7 +66,7 @@ fn normalized_intersect_point(a: Coo3D, b: Coo3D, ua: f64, ub: f64) -> UnitVect3
 }
 
 // The point, where it lies on the edge between pa and pb or opposite to it.
-fn in_edge(i: UnitVect3, pa: Coo3D, pb: Coo3D) -> Crossing
+fn in_edge(i: UnitVect3, pa: Coo3D, pb: Coo3D) -> Option<UnitVect3>
     ensures { result ≡ in_edge i pa pb }
 {
     let va = pa.to_vect3();
@@ -77,14 +76,14 @@ fn in_edge(i: UnitVect3, pa: Coo3D, pb: Coo3D) -> Crossing
     if (float::abs(coo3d::dot_product(va, v)) > papb)
         & (float::abs(coo3d::dot_product(vb, v)) > papb)
     {
-        Crossing::At(i)
+        Some(i)
     } else {
-        Crossing::None
+        None
     }
 }
 
 // `intersect_point_in_polygon_great_circle_arc`, with the edge's ends in either order.
-fn point_in_edge(a: Coo3D, b: Coo3D, from: Coo3D, to: Coo3D, ua: f64, ub: f64) -> Crossing
+fn point_in_edge(a: Coo3D, b: Coo3D, from: Coo3D, to: Coo3D, ua: f64, ub: f64) -> Option<UnitVect3>
     ensures { result ≡ in_edge (intersect_point a b ua ub) from to }
 {
     in_edge(normalized_intersect_point(a, b, ua, ub), from, to)
@@ -99,7 +98,7 @@ fn is_beyond(i: UnitVect3, pa: Vect3, pb: Vect3, papb: f64) -> bool
     (coo3d::dot_product(pa, v) > papb) & (coo3d::dot_product(pb, v) > papb)
 }
 
-fn circle_crossing(n: Vect3, from: Coo3D, to: Coo3D, normal: Vect3) -> Crossing
+fn circle_crossing(n: Vect3, from: Coo3D, to: Coo3D, normal: Vect3) -> Option<UnitVect3>
     ensures { result ≡ circle_crossing n (record { from = from; to = to; normal = normal }) }
 {
     let pa = from.to_vect3();
@@ -108,32 +107,32 @@ fn circle_crossing(n: Vect3, from: Coo3D, to: Coo3D, normal: Vect3) -> Crossing
     let v = coo3d::cross_product(normal, n);
     let i = v.normalized();
     if is_beyond(i, pa, pb, papb) {
-        return Crossing::At(i);
+        return Some(i);
     }
     let o = i.opposite();
     if is_beyond(o, pa, pb, papb) {
-        Crossing::At(o)
+        Some(o)
     } else {
-        Crossing::None
+        None
     }
 }
 
 // The longitudes and the sides of the arc's ends are tested on numbers, in the loop: only an edge that passes hands its points on.
-pub fn intersect_great_circle_arc(r: Region, a: Coo3D, b: Coo3D) -> FirstAnswer
+pub fn intersect_great_circle_arc(r: Region, a: Coo3D, b: Coo3D) -> Result<Option<UnitVect3>, Cause>
     ensures { first_answer result ≡ arc_first_of (view_of r) a b }
 {
     let count = r.count;
     if count == 0 {
-        return FirstAnswer::Refused(Cause::NoPoint);
+        return Err(Cause::NoPoint);
     }
     if count > 64 {
-        return FirstAnswer::Refused(Cause::TooManyPoints);
+        return Err(Cause::TooManyPoints);
     }
-    let PointCheck::Point(p) = domain::check_point(a, 0) else {
-        return FirstAnswer::Refused(Cause::OutsideDomain(0));
+    let Ok(p) = domain::check_point(a, 0) else {
+        return Err(Cause::OutsideDomain(0));
     };
-    let PointCheck::Point(q) = domain::check_point(b, 1) else {
-        return FirstAnswer::Refused(Cause::OutsideDomain(1));
+    let Ok(q) = domain::check_point(b, 1) else {
+        return Err(Cause::OutsideDomain(1));
     };
     let west = west_of(p, q);
     let east = east_of(p, q);
@@ -159,16 +158,15 @@ pub fn intersect_great_circle_arc(r: Region, a: Coo3D, b: Coo3D) -> FirstAnswer
             let ub = coo3d::dot_product(b_vect, n);
             if (ua > 0.0) != (ub > 0.0) {
                 let from = vertices[before];
-                let Tested::Crossing(c) = crossings::test_finite(point_in_edge(
-                    west, east, from, to, ua, ub,
-                )) else {
-                    return FirstAnswer::Refused(Cause::NotFinite);
+                let Ok(c) = crossings::test_finite(point_in_edge(west, east, from, to, ua, ub))
+                else {
+                    return Err(Cause::NotFinite);
                 };
                 match c {
-                    Crossing::At(point) => {
-                        return FirstAnswer::At(point);
+                    Some(point) => {
+                        return Ok(Some(point));
                     }
-                    Crossing::None => {}
+                    None => {}
                 }
             }
         }
@@ -176,7 +174,7 @@ pub fn intersect_great_circle_arc(r: Region, a: Coo3D, b: Coo3D) -> FirstAnswer
         before = i;
         i += 1;
     }
-    FirstAnswer::None
+    Ok(None)
 }
 
 pub fn intersect_great_circle_arc_all(r: Region, a: Coo3D, b: Coo3D) -> AllAnswer
@@ -189,10 +187,10 @@ pub fn intersect_great_circle_arc_all(r: Region, a: Coo3D, b: Coo3D) -> AllAnswe
     if count > 64 {
         return crossings::refused(Cause::TooManyPoints);
     }
-    let PointCheck::Point(p) = domain::check_point(a, 0) else {
+    let Ok(p) = domain::check_point(a, 0) else {
         return crossings::refused(Cause::OutsideDomain(0));
     };
-    let PointCheck::Point(q) = domain::check_point(b, 1) else {
+    let Ok(q) = domain::check_point(b, 1) else {
         return crossings::refused(Cause::OutsideDomain(1));
     };
     let west = west_of(p, q);
@@ -221,17 +219,16 @@ pub fn intersect_great_circle_arc_all(r: Region, a: Coo3D, b: Coo3D) -> AllAnswe
             let ub = coo3d::dot_product(b_vect, n);
             if (ua > 0.0) != (ub > 0.0) {
                 let from = vertices[before];
-                let Tested::Crossing(c) = crossings::test_finite(point_in_edge(
-                    west, east, from, to, ua, ub,
-                )) else {
+                let Ok(c) = crossings::test_finite(point_in_edge(west, east, from, to, ua, ub))
+                else {
                     return crossings::refused(Cause::NotFinite);
                 };
                 match c {
-                    Crossing::At(point) => {
+                    Some(point) => {
                         points[len] = point;
                         len += 1;
                     }
-                    Crossing::None => {}
+                    None => {}
                 }
             }
         }
@@ -241,12 +238,12 @@ pub fn intersect_great_circle_arc_all(r: Region, a: Coo3D, b: Coo3D) -> AllAnswe
     }
     AllAnswer {
         crossings: Crossings { points, len },
-        outcome: Outcome::Done,
+        outcome: Ok(()),
     }
 }
 
-pub fn is_intersecting_great_circle_arc(r: Region, a: Coo3D, b: Coo3D) -> Decision
-    ensures { decision_answer result ≡ is_intersecting_arc (view_of r) a b }
+pub fn is_intersecting_great_circle_arc(r: Region, a: Coo3D, b: Coo3D) -> Result<bool, Cause>
+    ensures { answer_of result ≡ is_intersecting_arc (view_of r) a b }
 {
     crossings::is_intersecting(intersect_great_circle_arc(r, a, b))
 }
@@ -262,7 +259,7 @@ pub fn intersect_great_circle_all(r: Region, n: Vect3) -> AllAnswer
     if count > 64 {
         return crossings::refused(Cause::TooManyPoints);
     }
-    let VectorCheck::Vector(m) = domain::check_vector(n, 0) else {
+    let Ok(m) = domain::check_vector(n, 0) else {
         return crossings::refused(Cause::OutsideDomain(0));
     };
     let mut points = crossings::no_points();
@@ -273,22 +270,21 @@ pub fn intersect_great_circle_all(r: Region, n: Vect3) -> AllAnswer
     while i < count {
         let to = r.vertices[i];
         let normal = r.cross_products[i];
-        let Tested::Crossing(c) = crossings::test_finite(circle_crossing(m, from, to, normal))
-        else {
+        let Ok(c) = crossings::test_finite(circle_crossing(m, from, to, normal)) else {
             return crossings::refused(Cause::NotFinite);
         };
         match c {
-            Crossing::At(point) => {
+            Some(point) => {
                 points[len] = point;
                 len += 1;
             }
-            Crossing::None => {}
+            None => {}
         }
         from = to;
         i += 1;
     }
     AllAnswer {
         crossings: Crossings { points, len },
-        outcome: Outcome::Done,
+        outcome: Ok(()),
     }
 }

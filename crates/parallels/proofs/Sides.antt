@@ -6,8 +6,8 @@ use mathlib.Core.Bool.{Bool, true, false, ◌&&◌, ◌||◌, not, cond, beq, fa
 use borrow.Author.Tests.{ltb-true, eqb-true, le-ltb}
 use lib.Dec.{ltb, eqb}
 use lib.Ieee.{Float, nan, inf, fin, up, down, lt, eq, le}
+use Rattle.std.specs.declared.option.Option.TheVariants.{None}
 use Rattle.coo3d.specs.declared.Coo3D.{Coo3D}
-use Rattle.crossings.specs.declared.Crossing.TheVariants.{None}
 use Rattle.region.specs.Edges.{Edge}
 use Rattle.parallels.specs.Parallels.{south_of, north_of, spans_lat, parallel_crossing}
 

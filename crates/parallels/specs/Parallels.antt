@@ -1,12 +1,12 @@
 -- Where an edge crosses a parallel: upstream's `intersect_parallel`, for one edge, with its cases.
+use Rattle.std.specs.declared.option.Option.{Option}
+use Rattle.std.specs.declared.option.Option.TheVariants.{None, Some}
 use Rattle.std.specs.Prelude.{Bool, ◌&&◌, not, cond, Float}
 use Rattle.std.specs.Float.Ieee.{neg, lt, eq}
 use Rattle.coo3d.specs.declared.Coo3D.{Coo3D}
 use Rattle.coo3d.specs.declared.Vect3.{Vect3}
 use Rattle.coo3d.specs.declared.UnitVect3.{UnitVect3}
 use Rattle.coo3d.specs.Vectors.{vect_of_point, vect_of_unit, dot_of, cross_of}
-use Rattle.crossings.specs.declared.Crossing.{Crossing}
-use Rattle.crossings.specs.declared.Crossing.TheVariants.{None, At}
 use Rattle.float.specs.Doubles.{◌⊕◌, ◌⊖◌, ◌⊗◌, ◌⊘◌, nought, one, two, half_pi, pow2, is_finite, inclusive, half_open}
 use Rattle.region.specs.Edges.{Edge}
 use Rattle.root.specs.Root.{sqrt_of}
@@ -34,8 +34,8 @@ spans_lat from to lat = half_open (south_of from to).lat lat (north_of from to).
 unfoldable pub straddles : UnitVect3 → Coo3D → Coo3D → Bool
 straddles p pa pb = lt (dot_of (cross_of (vect_of_unit p) (vect_of_point pa)) (cross_of (vect_of_unit p) (vect_of_point pb))) nought
 
-unfoldable pub either_of : UnitVect3 → UnitVect3 → Coo3D → Coo3D → Crossing
-either_of p q pa pb = cond (straddles p pa pb) (At p) (At q)
+unfoldable pub either_of : UnitVect3 → UnitVect3 → Coo3D → Coo3D → Option UnitVect3
+either_of p q pa pb = cond (straddles p pa pb) (Some p) (Some q)
 
 -- ---- case A: the normal's x is not 0
 
@@ -43,16 +43,16 @@ unfoldable pub point_at_y : Vect3 → Float → Float → UnitVect3
 point_at_y n y z = record { x = neg ((n.y ⊗ y) ⊕ (n.z ⊗ z)) ⊘ n.x; y = y; z = z }
 
 -- A.1: two solutions, the first where it lies on the edge, else the second. A.2: one. Else none.
-unfoldable pub second_degree : Coo3D → Coo3D → Vect3 → Float → Float → Float → Float → Crossing
+unfoldable pub second_degree : Coo3D → Coo3D → Vect3 → Float → Float → Float → Float → Option UnitVect3
 second_degree pa pb n z twoA b delta =
     cond (lt nought delta)
     (either_of (point_at_y n ((neg b ⊖ sqrt_of delta) ⊘ twoA) z) (point_at_y n ((neg b ⊕ sqrt_of delta) ⊘ twoA) z) pa pb)
-    (cond (eq delta nought) (At (point_at_y n (neg b ⊘ twoA) z)) None)
+    (cond (eq delta nought) (Some (point_at_y n (neg b ⊘ twoA) z)) None)
 
 abbrev pub discriminant : Float → Float → Float → Float
 discriminant b twoA c = (b ⊗ b) ⊖ (two ⊗ twoA ⊗ c)
 
-unfoldable pub case_a : Coo3D → Coo3D → Vect3 → Float → Float → Crossing
+unfoldable pub case_a : Coo3D → Coo3D → Vect3 → Float → Float → Option UnitVect3
 case_a pa pb n z cos =
     let xn2 = pow2 n.x in
     let twoA = two ⊗ ((pow2 n.y ⊘ xn2) ⊕ one) in
@@ -63,22 +63,22 @@ case_a pa pb n z cos =
 -- ---- case B: it is 0
 
 -- B.1, the normal's y is 0 too: pa, where z and pa's z are 0. B.2: x by a root, with the sign that lies on the edge.
-unfoldable pub case_b : Coo3D → Coo3D → Vect3 → Float → Float → Crossing
+unfoldable pub case_b : Coo3D → Coo3D → Vect3 → Float → Float → Option UnitVect3
 case_b pa pb n z cos =
     let x = sqrt_of (pow2 cos ⊖ (pow2 n.z ⊗ pow2 z ⊘ pow2 n.y)) in
     let y = neg n.z ⊗ z ⊘ n.y in
     cond (eq n.y nought)
-    (cond (eq z nought && eq z pa.z) (At (record { x = pa.x; y = pa.y; z = pa.z })) None)
+    (cond (eq z nought && eq z pa.z) (Some (record { x = pa.x; y = pa.y; z = pa.z })) None)
     (either_of (record { x = x; y = y; z = z }) (record { x = neg x; y = y; z = z }) pa pb)
 
 -- ---- an edge
 
 -- the crossing of an edge whose latitudes fit
-unfoldable pub point_of : Edge → Float → Float → Crossing
+unfoldable pub point_of : Edge → Float → Float → Option UnitVect3
 point_of e sin cos =
     let pa = south_of e.from e.to in
     let pb = north_of e.from e.to in
     cond (not (eq e.normal.x nought)) (case_a pa pb e.normal sin cos) (case_b pa pb e.normal sin cos)
 
-unfoldable pub parallel_crossing : Float → Float → Float → Edge → Crossing
+unfoldable pub parallel_crossing : Float → Float → Float → Edge → Option UnitVect3
 parallel_crossing lat sin cos e = cond (spans_lat e.from e.to lat) (point_of e sin cos) None

@@ -3,15 +3,15 @@
 #![tactic(auto)]
 
 ghost use Rattle.std.specs.Prelude.{◌≡◌};
-ghost use Rattle.refusal.specs.Answer.{decision_answer};
+ghost use Rattle.refusal.specs.Answer.{answer_of};
 ghost use Rattle.region.specs.View.{view_of};
 ghost use Rattle.crossings.specs.Crossings.{first_answer, Lists};
 ghost use Rattle.parallels.specs.Parallels.{is_parallel, south_of, north_of, spans_lat, straddles, point_at_y, either_of, second_degree, case_a, case_b, point_of, parallel_crossing};
 ghost use Rattle.parallels.specs.Queries.{parallel_first_of, parallel_all_of, is_intersecting_parallel};
 
 use coo3d::{Coo3D, UnitVect3, Vect3};
-use crossings::{AllAnswer, Crossing, Crossings, FirstAnswer, Tested};
-use refusal::{Cause, Decision, Outcome};
+use crossings::{AllAnswer, Crossings};
+use refusal::Cause;
 use region::Region;
 
 fn is_parallel(lat: f64, sin: f64, cos: f64) -> bool
@@ -66,37 +66,45 @@ fn point_at_y(n: Vect3, y: f64, z: f64) -> UnitVect3
 }
 
 // p where it lies on the edge, and else q.
-fn either(p: UnitVect3, q: UnitVect3, pa: Coo3D, pb: Coo3D) -> Crossing
+fn either(p: UnitVect3, q: UnitVect3, pa: Coo3D, pb: Coo3D) -> Option<UnitVect3>
     ensures { result ≡ either_of p q pa pb }
 {
     if is_between(p, pa, pb) {
-        Crossing::At(p)
+        Some(p)
     } else {
-        Crossing::At(q)
+        Some(q)
     }
 }
 
 // Cases A.1 and A.2, and no real solution: y by an equation of the second degree.
-fn second_degree(pa: Coo3D, pb: Coo3D, n: Vect3, z: f64, two_a: f64, b: f64, delta: f64) -> Crossing
+fn second_degree(
+    pa: Coo3D,
+    pb: Coo3D,
+    n: Vect3,
+    z: f64,
+    two_a: f64,
+    b: f64,
+    delta: f64,
+) -> Option<UnitVect3>
     ensures { result ≡ second_degree pa pb n z two_a b delta }
 {
     if delta > 0.0 {
         let delta_root_sq = root::sqrt(delta);
         let p1 = point_at_y(n, (-b - delta_root_sq) / two_a, z);
         if is_between(p1, pa, pb) {
-            Crossing::At(p1)
+            Some(p1)
         } else {
-            Crossing::At(point_at_y(n, (-b + delta_root_sq) / two_a, z))
+            Some(point_at_y(n, (-b + delta_root_sq) / two_a, z))
         }
     } else if delta == 0.0 {
-        Crossing::At(point_at_y(n, -b / two_a, z))
+        Some(point_at_y(n, -b / two_a, z))
     } else {
-        Crossing::None
+        None
     }
 }
 
 // Case A: n.x is not 0.
-fn case_a(pa: Coo3D, pb: Coo3D, n: Vect3, z: f64, lat_cos: f64) -> Crossing
+fn case_a(pa: Coo3D, pb: Coo3D, n: Vect3, z: f64, lat_cos: f64) -> Option<UnitVect3>
     ensures { result ≡ case_a pa pb n z lat_cos }
 {
     let xn2 = n.x * n.x;
@@ -107,18 +115,18 @@ fn case_a(pa: Coo3D, pb: Coo3D, n: Vect3, z: f64, lat_cos: f64) -> Crossing
 }
 
 // Case B: n.x is 0.
-fn case_b(pa: Coo3D, pb: Coo3D, n: Vect3, z: f64, lat_cos: f64) -> Crossing
+fn case_b(pa: Coo3D, pb: Coo3D, n: Vect3, z: f64, lat_cos: f64) -> Option<UnitVect3>
     ensures { result ≡ case_b pa pb n z lat_cos }
 {
     if n.y == 0.0 {
         if (z == 0.0) & (z == pa.z) {
-            Crossing::At(UnitVect3 {
+            Some(UnitVect3 {
                 x: pa.x,
                 y: pa.y,
                 z: pa.z,
             })
         } else {
-            Crossing::None
+            None
         }
     } else {
         let x = root::sqrt(lat_cos * lat_cos - (n.z * n.z) * (z * z) / (n.y * n.y));
@@ -128,7 +136,7 @@ fn case_b(pa: Coo3D, pb: Coo3D, n: Vect3, z: f64, lat_cos: f64) -> Crossing
 }
 
 // The crossing of an edge whose latitudes fit.
-fn point_of(from: Coo3D, to: Coo3D, n: Vect3, lat_sin: f64, lat_cos: f64) -> Crossing
+fn point_of(from: Coo3D, to: Coo3D, n: Vect3, lat_sin: f64, lat_cos: f64) -> Option<UnitVect3>
     ensures { result ≡ point_of (record { from = from; to = to; normal = n }) lat_sin lat_cos }
 {
     // Case A does not ask which end is the southern one.
@@ -148,29 +156,34 @@ fn parallel_crossing(
     from: Coo3D,
     to: Coo3D,
     n: Vect3,
-) -> Crossing
+) -> Option<UnitVect3>
     ensures { result ≡ parallel_crossing lat lat_sin lat_cos (record { from = from; to = to; normal = n }) }
 {
     if spans_lat(from, to, lat) {
         point_of(from, to, n, lat_sin, lat_cos)
     } else {
-        Crossing::None
+        None
     }
 }
 
 // The first edge whose latitudes fit decides.
-pub fn intersect_parallel(r: Region, lat: f64, lat_sin: f64, lat_cos: f64) -> FirstAnswer
+pub fn intersect_parallel(
+    r: Region,
+    lat: f64,
+    lat_sin: f64,
+    lat_cos: f64,
+) -> Result<Option<UnitVect3>, Cause>
     ensures { first_answer result ≡ parallel_first_of (view_of r) lat lat_sin lat_cos }
 {
     let count = r.count;
     if count == 0 {
-        return FirstAnswer::Refused(Cause::NoPoint);
+        return Err(Cause::NoPoint);
     }
     if count > 64 {
-        return FirstAnswer::Refused(Cause::TooManyPoints);
+        return Err(Cause::TooManyPoints);
     }
     if !is_parallel(lat, lat_sin, lat_cos) {
-        return FirstAnswer::Refused(Cause::NoSuchParallel);
+        return Err(Cause::NoSuchParallel);
     }
     // Taken out of the region: an index into it would have all of it copied, to the place beside it, where a copy is slow.
     let vertices = r.vertices;
@@ -186,22 +199,20 @@ pub fn intersect_parallel(r: Region, lat: f64, lat_sin: f64, lat_cos: f64) -> Fi
             let to = vertices[i];
             if spans_lat(from, to, lat) {
                 let n = normals[i];
-                let Tested::Crossing(c) = crossings::test_finite(point_of(
-                    from, to, n, lat_sin, lat_cos,
-                )) else {
-                    return FirstAnswer::Refused(Cause::NotFinite);
+                let Ok(c) = crossings::test_finite(point_of(from, to, n, lat_sin, lat_cos)) else {
+                    return Err(Cause::NotFinite);
                 };
-                let Crossing::At(p) = c else {
-                    return FirstAnswer::None;
+                let Some(p) = c else {
+                    return Ok(None);
                 };
-                return FirstAnswer::At(p);
+                return Ok(Some(p));
             }
             from_below = to_below;
         }
         before = i;
         i += 1;
     }
-    FirstAnswer::None
+    Ok(None)
 }
 
 pub fn intersect_parallel_all(r: Region, lat: f64, lat_sin: f64, lat_cos: f64) -> AllAnswer
@@ -230,17 +241,17 @@ pub fn intersect_parallel_all(r: Region, lat: f64, lat_sin: f64, lat_cos: f64) -
             let from = vertices[before];
             let to = vertices[i];
             let n = normals[i];
-            let Tested::Crossing(c) = crossings::test_finite(parallel_crossing(
+            let Ok(c) = crossings::test_finite(parallel_crossing(
                 lat, lat_sin, lat_cos, from, to, n,
             )) else {
                 return crossings::refused(Cause::NotFinite);
             };
             match c {
-                Crossing::At(p) => {
+                Some(p) => {
                     points[len] = p;
                     len += 1;
                 }
-                Crossing::None => {}
+                None => {}
             }
             from_below = to_below;
         }
@@ -249,12 +260,17 @@ pub fn intersect_parallel_all(r: Region, lat: f64, lat_sin: f64, lat_cos: f64) -
     }
     AllAnswer {
         crossings: Crossings { points, len },
-        outcome: Outcome::Done,
+        outcome: Ok(()),
     }
 }
 
-pub fn is_intersecting_parallel(r: Region, lat: f64, lat_sin: f64, lat_cos: f64) -> Decision
-    ensures { decision_answer result ≡ is_intersecting_parallel (view_of r) lat lat_sin lat_cos }
+pub fn is_intersecting_parallel(
+    r: Region,
+    lat: f64,
+    lat_sin: f64,
+    lat_cos: f64,
+) -> Result<bool, Cause>
+    ensures { answer_of result ≡ is_intersecting_parallel (view_of r) lat lat_sin lat_cos }
 {
     crossings::is_intersecting(intersect_parallel(r, lat, lat_sin, lat_cos))
 }

@@ -2,6 +2,7 @@
 use mathlib.Core.Path.{◌≡◌, refl, sym, subst}
 use mathlib.Core.Bool.{true, false}
 use lib.Ieee.{sub, mul, neg, lt, le, fits, of_bits}
+use Rattle.std.specs.declared.result.Result.TheVariants.{Ok}
 use Rattle.coo3d.specs.Points.{are_doubles}
 use Rattle.coo3d.specs.Vectors.{cross_of, opposite_of}
 use Rattle.domain.specs.Domain.{in_domain}
@@ -11,7 +12,6 @@ use Rattle.lists.specs.Cyclic.{last_of, along}
 use Rattle.making.specs.Made.{Made, built}
 use Rattle.marked_cases.specs.Cases.{corners, one_and_half}
 use Rattle.marked_cases.proofs.Cases.{marked_cases}
-use Rattle.refusal.specs.declared.Outcome.TheVariants.{Done}
 use Rattle.region.specs.declared.Built.{Built}
 use Rattle.region.specs.declared.ContainsSouthPoleMethod.TheVariants.{Default}
 use Rattle.region.specs.declared.Region.{Region}
@@ -24,7 +24,7 @@ abbrev s : Region
 s = record { vertices = corners; cross_products = normals_of corners; count = 4; contains_south_pole = false; seam_count = seams_of corners }
 
 abbrev by_build : Built
-by_build = record { region = s; outcome = Done }
+by_build = record { region = s; outcome = (Ok tt) }
 
 doubles : are_doubles corners ≡ true
 unfolding are_doubles fits of_bits

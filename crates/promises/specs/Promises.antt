@@ -1,6 +1,6 @@
 -- What is promised beyond the contracts of the single calls: a reviewer's first page. Each field is a theorem, spelled out; the definitions that it
 -- names stand in the crates' specs/. Every theorem joins here, with a wrong edit of its line in must-fail/.
-use Rattle.std.specs.Prelude.{ℕ, ◌+◌, ◌-◌, ◌*◌, ◌^◌, ◌≤◌, ◌<◌, ◌≡◌, true, List, ◌++◌, T, Float, length, take, drop}
+use Rattle.std.specs.Prelude.{ℕ, ◌+◌, ◌-◌, ◌*◌, ◌^◌, ◌≤◌, ◌<◌, ◌≡◌, true, List, ◌++◌, T, Float, length, take, drop, Ok}
 use Rattle.std.specs.Float.{binary64}
 use Rattle.std.specs.Float.Ieee.{fits}
 use Rattle.std.specs.Float.Ieee.Positive.{positive}
@@ -20,7 +20,6 @@ use Rattle.making.specs.Made.{Made}
 use Rattle.marked_cases.specs.Cases.{corners, MarkedCases}
 use Rattle.poles.specs.Poles.{Poles}
 use Rattle.refusal.specs.Answer.{answered}
-use Rattle.refusal.specs.declared.Outcome.TheVariants.{Done}
 use Rattle.region.specs.declared.Built.{Built}
 use Rattle.region.specs.declared.ContainsSouthPoleMethod.{ContainsSouthPoleMethod}
 use Rattle.region.specs.declared.ContainsSouthPoleMethod.TheVariants.{Default}
@@ -56,7 +55,7 @@ pub record Promises : Type 0 where
   pub write_read : (s : List ℕ) (v : View) → are_bytes s ≡ true → read_of s ≡ answered v → file_of v ≡ drop (length s - file_length v.count) s
   -- For the region of any build that was not refused, and every list of edits, refused ones included: `Holds` says what holds along it.
   pub edit_theorem :
-      (points : List Coo3D) (count : ℕ) (rule : ContainsSouthPoleMethod) (b : Built) → Builds b (build_of points count rule) → b.outcome ≡ Done
+      (points : List Coo3D) (count : ℕ) (rule : ContainsSouthPoleMethod) (b : Built) → Builds b (build_of points count rule) → b.outcome ≡ Ok tt
       → (es : List Edit) (last : Region) (run : Run b.region es last)
       → (s : Plain) × ((start_of points count rule ≡ answered s) × Holds b.region last es s run)
   -- A region is made that was built of points that are doubles, or read, and every one along a list of edits whose points are doubles.

@@ -4,9 +4,10 @@ use native.Mathlib.Omega.{arith}
 use mathlib.Core.Path.{◌≡◌, refl, sym, ap}
 use mathlib.Core.Bool.{Bool, true, false}
 use mathlib.Core.List.{List}
+use Rattle.std.specs.declared.result.Result.{Result}
+use Rattle.std.specs.declared.result.Result.TheVariants.{Ok, Err}
 use Rattle.refusal.specs.declared.Cause.{Cause}
-use Rattle.refusal.specs.declared.Outcome.TheVariants.{Done, Refused}
-use Rattle.refusal.specs.Answer.{Answer, answered, refused, refuse_if, and_then, outcome_of}
+use Rattle.refusal.specs.Answer.{Answer, answered, refused, refuse_if, and_then, answer_of}
 
 pub then_answered : {A : Type 0} (x : Answer A) → and_then x answered ≡ x
 then_answered (answered a) = refl
@@ -24,8 +25,8 @@ then_same (refused n v) f g h = refl
 pub never : {A B : Type 0} {a : A} {n : ℕ} {vs : List ℕ} → refused n vs ≡ answered a → B
 never e = absurd (let z : ◌≡◌ {A = ℕ} 0 1 = cc e in omega arith)
 
-pub not_refused : {A : Type 0} (cause : Cause) → Done ≡ Refused cause → A
-not_refused cause e = never {A = Bool} (ap (λ x. outcome_of x true) (sym e))
+pub not_refused : {A B : Type 0} {b : B} (cause : Cause) → ◌≡◌ {A = Result B Cause} (Ok b) (Err cause) → A
+not_refused cause e = never (ap answer_of (sym e))
 
 -- a test that does not refuse fails, and what follows answers
 pub passed : {A : Type 0} (b : Bool) (n : ℕ) (vs : List ℕ) (next : Answer A) (a : A) → refuse_if b n vs next ≡ answered a → (b ≡ false) × (next ≡ answered a)

@@ -2,7 +2,7 @@
 #![tactic(auto)]
 
 ghost use Rattle.std.specs.Prelude.{◌≡◌};
-ghost use Rattle.refusal.specs.Answer.{answered, decision_answer};
+ghost use Rattle.refusal.specs.Answer.{answered, answer_of};
 ghost use Rattle.refusal.specs.Table.{number_of};
 
 #[derive(Clone, Copy)]
@@ -27,21 +27,6 @@ pub enum Cause {
     ZoneBounds,
 }
 
-// How a call ended that hands its result beside this.
-#[derive(Clone, Copy)]
-pub enum Outcome {
-    Done,
-    Refused(Cause),
-}
-
-// The answer of a question.
-#[derive(Clone, Copy)]
-pub enum Decision {
-    Yes,
-    No,
-    Refused(Cause),
-}
-
 // The cause's number in the table.
 pub fn number(cause: Cause) -> u64
     ensures { result ≡ number_of cause }
@@ -59,8 +44,9 @@ pub fn number(cause: Cause) -> u64
     }
 }
 
-pub fn decide(yes: bool) -> Decision
-    ensures { decision_answer result ≡ answered yes }
+// The answer of a question.
+pub fn decide(yes: bool) -> Result<bool, Cause>
+    ensures { answer_of result ≡ answered yes }
 {
-    if yes { Decision::Yes } else { Decision::No }
+    Ok(yes)
 }

@@ -1,14 +1,16 @@
 -- Laws of `Builds`, for calls that answer a region beside an outcome and for their callers.
 use mathlib.Core.Path.{◌≡◌, refl, subst, ap, ◌∙◌}
+use Rattle.std.specs.declared.result.Result.{Result}
+use Rattle.std.specs.declared.result.Result.TheVariants.{Ok, Err}
+use Rattle.std.specs.Prelude.{⊤}
+use Rattle.refusal.specs.declared.Cause.{Cause}
 use Rattle.refusal.specs.Answer.{Answer, answered, outcome_of}
-use Rattle.refusal.specs.declared.Outcome.{Outcome}
-use Rattle.refusal.specs.declared.Outcome.TheVariants.{Done, Refused}
 use Rattle.refusal.proofs.Answers.{never}
 use Rattle.region.specs.declared.Built.{Built}
 use Rattle.region.specs.View.{View, view_of}
 use Rattle.region.specs.Region.{Builds}
 
-pub builds_done : (b : Built) (v : View) → b.outcome ≡ Done → view_of b.region ≡ v → Builds b (answered v)
+pub builds_done : (b : Built) (v : View) → b.outcome ≡ Ok tt → view_of b.region ≡ v → Builds b (answered v)
 builds_done b v e w = record { outcome = rw e; view = w }
 
 pub builds_same : (b : Built) (x y : Answer View) → x ≡ y → Builds b x → Builds b y
@@ -19,9 +21,9 @@ pub as_answer : (b : Built) (x : Answer View) → Builds b x → outcome_of b.ou
 as_answer b x h = ap (outcome_of b.outcome) h.view ∙ h.outcome
 
 -- where there is an answer, the call is done
-pub answered_done : (b : Built) (v : View) → Builds b (answered v) → b.outcome ≡ Done
+pub answered_done : (b : Built) (v : View) → Builds b (answered v) → b.outcome ≡ Ok tt
 answered_done b v h = go b.outcome h.outcome
   where
-    go : (o : Outcome) → outcome_of o v ≡ answered v → o ≡ Done
-    go Done e = refl
-    go (Refused cause) e = never e
+    go : (o : Result ⊤ Cause) → outcome_of o v ≡ answered v → o ≡ Ok tt
+    go (Ok tt) e = refl
+    go (Err cause) e = never e

@@ -5,9 +5,12 @@ use native.Mathlib.Nat.{le_refl}
 use mir.Val.{bool_byte}
 use mathlib.Core.Path.{◌≡◌, refl, sym, ap, subst, ◌∙◌}
 use mathlib.Core.Bool.{Bool, false}
-use mathlib.Core.List.{List, [], ◌∷◌, ◌++◌}
+use mathlib.Core.List.{List, [], ◌++◌}
 use lib.ListN.{length, take, drop, get_or, set, length-set}
 use lib.Seq.{length-take-le, get_or-set_other}
+use Rattle.std.specs.declared.result.Result.{Result}
+use Rattle.std.specs.declared.result.Result.TheVariants.{Ok, Err}
+use Rattle.std.specs.Prelude.{⊤}
 use Rattle.coo3d.specs.declared.Coo3D.{Coo3D}
 use Rattle.coo3d.specs.declared.Vect3.{Vect3}
 use Rattle.domain.specs.Checks.{point_at, points_from, points_of}
@@ -17,8 +20,6 @@ use Rattle.domain.proofs.Points.{so_far, far_start, far_good, far_bad, far_end}
 use Rattle.lists.specs.Cyclic.{along}
 use Rattle.refusal.specs.Answer.{Answer, answered, refused, refused_for, outcome_of, and_then}
 use Rattle.refusal.specs.declared.Cause.{Cause}
-use Rattle.refusal.specs.declared.Outcome.{Outcome}
-use Rattle.refusal.specs.declared.Outcome.TheVariants.{Done, Refused}
 use Rattle.refusal.proofs.Answers.{never}
 use Rattle.region.specs.declared.Built.{Built}
 use Rattle.region.specs.declared.Region.{Region}
@@ -72,7 +73,7 @@ module _ {points : List Coo3D} {count i : ℕ} {flag : Bool} {r : Region} (inv :
         so_far_is = sym (far_good points count i r.vertices nowhere long below q room (ap (point_at i) (sym at) ∙ e)) ∙ inv.so_far_is;
       }
 
-  pub checking_bad : (count ≡ 0 → ⊥) → count ≤ 64 → i < count → (k : ℕ) (vs : List ℕ) → refused k vs ≡ point_at i (get_or r.vertices i nowhere) → refused 1 (i ∷ []) ≡ points_of points count
+  pub checking_bad : (count ≡ 0 → ⊥) → count ≤ 64 → i < count → (k : ℕ) (vs : List ℕ) → refused k vs ≡ point_at i (get_or r.vertices i nowhere) → refused k vs ≡ points_of points count
   unfolding points_of
   checking_bad some few below k vs e =
       let long : count ≤ length points = omega (arith, few, full) in
@@ -184,19 +185,19 @@ module _ {points : List Coo3D} {count i k n : ℕ} {flag : Bool} {r₀ r : Regio
       let crossings : n ≡ seams_of (take count r₀.vertices) = counting_ends seams (rw len passed') in
       rw (second.counted, second.same, second.flagged, normals, crossings, len)
 
-  pub ends : Builds (record { region = seamed r n; outcome = Done }) (build_of points count (fixed_rule flag))
+  pub ends : Builds (record { region = seamed r n; outcome = (Ok tt) }) (build_of points count (fixed_rule flag))
   ends =
       let cs = take count r₀.vertices in
       let len : length cs ≡ count = length-take-le count r₀.vertices long in
       let built = fixed_is points count flag cs (checked first full some few passed) (λ (z : length cs ≡ 0). some (sym len ∙ z)) (rw len few) in
-      subst (Builds (record { region = seamed r n; outcome = Done })) built (record { outcome = refl; view = as_made })
+      subst (Builds (record { region = seamed r n; outcome = (Ok tt) })) built (record { outcome = refl; view = as_made })
 
 -- ---- by a rule: what was built by a fixed one, with the flag that the rule sets
 
 -- a build that is done answers its view; one that is not, a refusal
-pub built_view : (a : Answer View) (b : Built) → Builds b a → b.outcome ≡ Done → a ≡ answered (view_of b.region)
+pub built_view : (a : Answer View) (b : Built) → Builds b a → b.outcome ≡ Ok tt → a ≡ answered (view_of b.region)
 built_view (answered v) b h done = ap answered (sym h.view)
-built_view (refused n vs) b h done = never (sym h.outcome ∙ ap (λ (o : Outcome). outcome_of o (region_by (refused n vs))) done)
+built_view (refused n vs) b h done = never (sym h.outcome ∙ ap (λ (o : Result ⊤ Cause). outcome_of o (region_by (refused n vs))) done)
 
 -- what a fixed rule does not build no rule builds
 module _ (l : List Coo3D) (n : ℕ) (flag : Bool) (rule : ContainsSouthPoleMethod) (k : ℕ) (vs : List ℕ) where
@@ -214,10 +215,10 @@ module _ (l : List Coo3D) (n : ℕ) (flag : Bool) (rule : ContainsSouthPoleMetho
   unfolding build_of
   unbuilt e = by_points (points_of l n) e
 
-refusal_of : (a : Answer View) (b : Built) (cause : Cause) → Builds b a → b.outcome ≡ Refused cause → a ≡ refused_for cause
-refusal_of a b cause h o = sym h.outcome ∙ ap (λ (x : Outcome). outcome_of x (region_by a)) o
+refusal_of : (a : Answer View) (b : Built) (cause : Cause) → Builds b a → b.outcome ≡ Err cause → a ≡ refused_for cause
+refusal_of a b cause h o = sym h.outcome ∙ ap (λ (x : Result ⊤ Cause). outcome_of x (region_by a)) o
 
-pub not_ruled : (l : List Coo3D) (n : ℕ) (flag : Bool) (rule : ContainsSouthPoleMethod) (b : Built) (cause : Cause) → Builds b (build_of l n (fixed_rule flag)) → b.outcome ≡ Refused cause → Builds b (build_of l n rule)
+pub not_ruled : (l : List Coo3D) (n : ℕ) (flag : Bool) (rule : ContainsSouthPoleMethod) (b : Built) (cause : Cause) → Builds b (build_of l n (fixed_rule flag)) → b.outcome ≡ Err cause → Builds b (build_of l n rule)
 not_ruled l n flag rule b cause h o =
     let e = refusal_of (build_of l n (fixed_rule flag)) b cause h o in
     subst (Builds b) (e ∙ sym (unbuilt l n flag rule _ _ e)) h

@@ -2,7 +2,7 @@
 use Prim.Native.Nat.{ℕ, ◌≤◌, ◌<◌}
 use native.Mathlib.Omega.{arith}
 use mathlib.Core.Path.{◌≡◌, refl, sym, ap, subst, ◌∙◌}
-use mathlib.Core.Bool.{Bool, true, false, not}
+use mathlib.Core.Bool.{Bool, true, false}
 use mathlib.Core.List.{List, [], ◌∷◌}
 use Rattle.coo3d.specs.declared.Coo3D.{Coo3D}
 use Rattle.domain.specs.Checks.{point_at}
@@ -80,7 +80,7 @@ twice true false = refl
 twice false true = refl
 twice false false = refl
 
-odd_told : (v : View) (p : Coo3D) (b : Bool) → (0 < v.count) × (v.count ≤ 64) × (point_at 0 p ≡ answered p) → answered b ≡ contains_of v p → exactly_one v.flag b ≡ odd_at p v
+pub odd_told : (v : View) (p : Coo3D) (b : Bool) → (0 < v.count) × (v.count ≤ 64) × (point_at 0 p ≡ answered p) → answered b ≡ contains_of v p → exactly_one v.flag b ≡ odd_at p v
 unfolding contains_of contained
 odd_told v p b (n, few, h) e =
     let side : b ≡ exactly_one v.flag (odd_at p v) = same_answer (e ∙ count_few v.count _ (some n) few ∙ rw h) in
@@ -89,18 +89,3 @@ odd_told v p b (n, few, h) e =
 pub never_told : {A : Type 0} (v : View) (p : Coo3D) (k : ℕ) (vs : List ℕ) → (0 < v.count) × (v.count ≤ 64) × (point_at 0 p ≡ answered p) → refused k vs ≡ contains_of v p → A
 unfolding contains_of
 never_told v p k vs (n, few, h) e = never {a = contained p v} (e ∙ count_few v.count _ (some n) few ∙ rw h)
-
-yes_side : (f : Bool) → not f ≡ exactly_one f true
-yes_side true = refl
-yes_side false = refl
-
-no_side : (f : Bool) → f ≡ exactly_one f false
-no_side true = refl
-no_side false = refl
-
-module _ (v : View) (p : Coo3D) (pre : (0 < v.count) × (v.count ≤ 64) × (point_at 0 p ≡ answered p)) where
-  pub odd_yes : answered true ≡ contains_of v p → not v.flag ≡ odd_at p v
-  odd_yes e = yes_side v.flag ∙ odd_told v p true pre e
-
-  pub odd_no : answered false ≡ contains_of v p → v.flag ≡ odd_at p v
-  odd_no e = no_side v.flag ∙ odd_told v p false pre e

@@ -2,14 +2,10 @@
 use Rattle.std.specs.Prelude.{ℕ, ◌≡◌, Bool, false, List}
 use Rattle.coo3d.specs.declared.Coo3D.{Coo3D}
 use Rattle.domain.specs.Checks.{point_at, points_of, with_count}
-use Rattle.refusal.specs.Answer.{Answer, answered, refused, refused_for, and_then, outcome_of}
+use Rattle.refusal.specs.Answer.{Answer, answered, refused, and_then, outcome_of}
 use Rattle.region.specs.declared.Built.{Built}
 use Rattle.region.specs.declared.ContainsSouthPoleMethod.{ContainsSouthPoleMethod}
 use Rattle.region.specs.declared.ContainsSouthPoleMethod.TheVariants.{Default, DefaultComplement, ContainsSouthPole, DoNotContainsSouthPole, ControlPointIn, ControlPointOut}
-use Rattle.region.specs.declared.CountAnswer.{CountAnswer}
-use Rattle.region.specs.declared.CountAnswer.TheVariants as counted
-use Rattle.region.specs.declared.RuleCheck.{RuleCheck}
-use Rattle.region.specs.declared.RuleCheck.TheVariants as check
 use Rattle.region.specs.View.{View, view_of, empty, made, contained}
 use Rattle.region.specs.Poles.{rule_flag}
 
@@ -21,10 +17,6 @@ contains_of v p = with_count v.count (and_then (point_at 0 p) (λ q. answered (c
 unfoldable pub seam_count_of : View → Answer ℕ
 seam_count_of v = with_count v.count (answered v.seam_count)
 
-abbrev pub count_answer : CountAnswer → Answer ℕ
-count_answer (counted.Count n) = answered n
-count_answer (counted.Refused cause) = refused_for cause
-
 -- ---- the flag, and building
 
 -- the rule with its control point checked, which has this index
@@ -35,10 +27,6 @@ rule_at index ContainsSouthPole = answered ContainsSouthPole
 rule_at index DoNotContainsSouthPole = answered DoNotContainsSouthPole
 rule_at index (ControlPointIn p) = and_then (point_at index p) (λ q. answered (ControlPointIn q))
 rule_at index (ControlPointOut p) = and_then (point_at index p) (λ q. answered (ControlPointOut q))
-
-abbrev pub rule_answer : RuleCheck → Answer ContainsSouthPoleMethod
-rule_answer (check.Rule rule) = answered rule
-rule_answer (check.Refused cause) = refused_for cause
 
 -- the flag that a rule sets for a region's corners and normals; its control point counts after the corners
 unfoldable pub flag_of : View → ContainsSouthPoleMethod → Answer Bool

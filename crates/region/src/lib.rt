@@ -2,16 +2,15 @@
 #![tactic(auto)]
 
 ghost use Rattle.std.specs.Prelude.{◌≡◌, false, ◌≤◌, ◌<◌, take};
-ghost use Rattle.refusal.specs.Answer.{answered, refused_for, decision_answer};
+ghost use Rattle.refusal.specs.Answer.{answered, refused_for, answer_of};
 ghost use Rattle.domain.specs.Checks.{point_at};
 ghost use Rattle.region.specs.Edges.{Edge, normal_of, in_lon_range, crosses_seam, is_counted};
 ghost use Rattle.region.specs.View.{view_of, empty, odd_at};
-ghost use Rattle.region.specs.Region.{contains_of, seam_count_of, count_answer, rule_at, rule_answer, flag_of, build_of, Builds};
+ghost use Rattle.region.specs.Region.{contains_of, seam_count_of, rule_at, flag_of, build_of, Builds};
 ghost use Rattle.region.specs.Poles.{step_of, basic_of, rule_flag, fixed_rule};
 
 use coo3d::{Coo3D, Vect3};
-use domain::PointCheck;
-use refusal::{Cause, Decision, Outcome};
+use refusal::Cause;
 
 // The first `count` entries of the two arrays are the corners, and each edge's normal; the others are free. Edge i runs from corner i - 1 to
 // corner i, edge 0 from the last corner. A value handed in counts as its fields are.
@@ -36,25 +35,11 @@ pub enum ContainsSouthPoleMethod {
     ControlPointOut(Coo3D),
 }
 
-// The answer of a call that counts.
-#[derive(Clone, Copy)]
-pub enum CountAnswer {
-    Count(usize),
-    Refused(Cause),
-}
-
-// A rule whose control point was checked.
-#[derive(Clone, Copy)]
-pub enum RuleCheck {
-    Rule(ContainsSouthPoleMethod),
-    Refused(Cause),
-}
-
 // Beside a refusal stands the empty region.
 #[derive(Clone, Copy)]
 pub struct Built {
     pub region: Region,
-    pub outcome: Outcome,
+    pub outcome: Result<(), Cause>,
 }
 
 // The edge's normal, turned north.
@@ -127,18 +112,18 @@ fn basic(vertices: [Coo3D; 64], count: usize) -> bool
 
 // The edges are passed here and not in a helper, which would copy the region. The normals are copied once an edge is in range, and a point in no
 // edge's range needs none of them.
-pub fn contains(r: Region, coo: Coo3D) -> Decision
-    ensures { decision_answer result ≡ contains_of (view_of r) coo }
+pub fn contains(r: Region, coo: Coo3D) -> Result<bool, Cause>
+    ensures { answer_of result ≡ contains_of (view_of r) coo }
 {
     let count = r.count;
     if count == 0 {
-        return Decision::Refused(Cause::NoPoint);
+        return Err(Cause::NoPoint);
     }
     if 64 < count {
-        return Decision::Refused(Cause::TooManyPoints);
+        return Err(Cause::TooManyPoints);
     }
-    let PointCheck::Point(p) = domain::check_point(coo, 0) else {
-        return Decision::Refused(Cause::OutsideDomain(0));
+    let Ok(p) = domain::check_point(coo, 0) else {
+        return Err(Cause::OutsideDomain(0));
     };
     let mut is_inside = r.contains_south_pole;
     let vertices = r.vertices;
@@ -154,7 +139,7 @@ pub fn contains(r: Region, coo: Coo3D) -> Decision
         i += 1;
     }
     if i == count {
-        return refusal::decide(is_inside);
+        return Ok(is_inside);
     }
     let v = p.to_vect3();
     let normals = r.cross_products;
@@ -167,43 +152,46 @@ pub fn contains(r: Region, coo: Coo3D) -> Decision
         from = to;
         i += 1;
     }
-    refusal::decide(is_inside)
+    Ok(is_inside)
 }
 
 // The number stored, as it is.
-pub fn seam_count(r: Region) -> CountAnswer
-    ensures { count_answer result ≡ seam_count_of (view_of r) }
+pub fn seam_count(r: Region) -> Result<usize, Cause>
+    ensures { answer_of result ≡ seam_count_of (view_of r) }
 {
     let count = r.count;
     if count == 0 {
-        return CountAnswer::Refused(Cause::NoPoint);
+        return Err(Cause::NoPoint);
     }
     if count > 64 {
-        return CountAnswer::Refused(Cause::TooManyPoints);
+        return Err(Cause::TooManyPoints);
     }
-    CountAnswer::Count(r.seam_count)
+    Ok(r.seam_count)
 }
 
 // The rule, its control point checked and numbered by the caller. Callers go on with the rule that is handed back.
-pub fn check_rule(method: ContainsSouthPoleMethod, index: usize) -> RuleCheck
-    ensures { rule_answer result ≡ rule_at index method }
+pub fn check_rule(
+    method: ContainsSouthPoleMethod,
+    index: usize,
+) -> Result<ContainsSouthPoleMethod, Cause>
+    ensures { answer_of result ≡ rule_at index method }
 {
     match method {
-        ContainsSouthPoleMethod::Default => RuleCheck::Rule(method),
-        ContainsSouthPoleMethod::DefaultComplement => RuleCheck::Rule(method),
-        ContainsSouthPoleMethod::ContainsSouthPole => RuleCheck::Rule(method),
-        ContainsSouthPoleMethod::DoNotContainsSouthPole => RuleCheck::Rule(method),
+        ContainsSouthPoleMethod::Default => Ok(method),
+        ContainsSouthPoleMethod::DefaultComplement => Ok(method),
+        ContainsSouthPoleMethod::ContainsSouthPole => Ok(method),
+        ContainsSouthPoleMethod::DoNotContainsSouthPole => Ok(method),
         ContainsSouthPoleMethod::ControlPointIn(p) => {
-            let PointCheck::Point(q) = domain::check_point(p, index) else {
-                return RuleCheck::Refused(Cause::OutsideDomain(index));
+            let Ok(q) = domain::check_point(p, index) else {
+                return Err(Cause::OutsideDomain(index));
             };
-            RuleCheck::Rule(ContainsSouthPoleMethod::ControlPointIn(q))
+            Ok(ContainsSouthPoleMethod::ControlPointIn(q))
         }
         ContainsSouthPoleMethod::ControlPointOut(p) => {
-            let PointCheck::Point(q) = domain::check_point(p, index) else {
-                return RuleCheck::Refused(Cause::OutsideDomain(index));
+            let Ok(q) = domain::check_point(p, index) else {
+                return Err(Cause::OutsideDomain(index));
             };
-            RuleCheck::Rule(ContainsSouthPoleMethod::ControlPointOut(q))
+            Ok(ContainsSouthPoleMethod::ControlPointOut(q))
         }
     }
 }
@@ -214,9 +202,8 @@ fn odd_at(r: Region, p: Coo3D) -> bool
     ensures { result ≡ odd_at p (view_of r) }
 {
     match contains(r, p) {
-        Decision::Yes => !r.contains_south_pole,
-        Decision::No => r.contains_south_pole,
-        Decision::Refused(_) => false,
+        Ok(is_inside) => r.contains_south_pole != is_inside,
+        Err(_) => false,
     }
 }
 
@@ -238,19 +225,19 @@ fn flag_by_rule(r: Region, rule: ContainsSouthPoleMethod) -> bool
 }
 
 // The flag that the rule sets for a region of these corners and normals. A control point is numbered by the count.
-pub fn contains_south_pole(r: Region, method: ContainsSouthPoleMethod) -> Decision
-    ensures { decision_answer result ≡ flag_of (view_of r) method }
+pub fn contains_south_pole(r: Region, method: ContainsSouthPoleMethod) -> Result<bool, Cause>
+    ensures { answer_of result ≡ flag_of (view_of r) method }
 {
     let count = r.count;
     if count == 0 {
-        return Decision::Refused(Cause::NoPoint);
+        return Err(Cause::NoPoint);
     }
     if count > 64 {
-        return Decision::Refused(Cause::TooManyPoints);
+        return Err(Cause::TooManyPoints);
     }
     match check_rule(method, count) {
-        RuleCheck::Refused(cause) => Decision::Refused(cause),
-        RuleCheck::Rule(rule) => refusal::decide(flag_by_rule(r, rule)),
+        Err(cause) => Err(cause),
+        Ok(rule) => Ok(flag_by_rule(r, rule)),
     }
 }
 
@@ -274,7 +261,7 @@ pub fn refused(cause: Cause) -> Built
     let region = empty();
     Built {
         region,
-        outcome: Outcome::Refused(cause),
+        outcome: Err(cause),
     }
 }
 
@@ -298,10 +285,10 @@ pub fn build_flagged(points: [Coo3D; 64], count: usize, flag: bool) -> Built
     let mut i: usize = 0;
     while i < count {
         let p = region.vertices[i];
-        let PointCheck::Point(q) = domain::check_point(p, i) else {
-            return refused(Cause::OutsideDomain(i));
-        };
-        region.vertices[i] = q;
+        match domain::check_point(p, i) {
+            Ok(q) => region.vertices[i] = q,
+            Err(cause) => return refused(cause),
+        }
         i += 1;
     }
     let last = count - 1;
@@ -320,7 +307,7 @@ pub fn build_flagged(points: [Coo3D; 64], count: usize, flag: bool) -> Built
     region.seam_count = seam_count;
     Built {
         region,
-        outcome: Outcome::Done,
+        outcome: Ok(()),
     }
 }
 
@@ -330,14 +317,14 @@ pub fn build(points: [Coo3D; 64], count: usize, method: ContainsSouthPoleMethod)
 {
     let mut built = build_flagged(points, count, false);
     let outcome = built.outcome;
-    let Outcome::Done = outcome else {
+    let Ok(()) = outcome else {
         return built;
     };
     match check_rule(method, built.region.count) {
-        RuleCheck::Refused(cause) => {
+        Err(cause) => {
             return refused(cause);
         }
-        RuleCheck::Rule(rule) => {
+        Ok(rule) => {
             let region = built.region;
             let flag = flag_by_rule(region, rule);
             built.region.contains_south_pole = flag;

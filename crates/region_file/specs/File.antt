@@ -2,16 +2,12 @@
 -- distance from the file's end back to corner 0.
 use Rattle.std.specs.Prelude.{ℕ, ◌+◌, ◌-◌, ◌*◌, Bool, not, cond, List, [], ◌∷◌, ◌++◌, eqb, ltb, length, take, drop}
 use Rattle.domain.specs.Checks.{with_count}
-use Rattle.refusal.specs.Answer.{Answer, answered, refused, refused_for, refuse_if, and_then}
+use Rattle.refusal.specs.Answer.{Answer, answered, refused, refuse_if, and_then}
 use Rattle.region.specs.Poles.{fixed_rule}
 use Rattle.region.specs.View.{View}
 use Rattle.region.specs.Region.{build_of}
 use Rattle.region_file.specs.Bytes.{number_at, bytes_of, corners_at, corners_bytes}
 use Rattle.region_file.specs.declared.Trailer.{Trailer}
-use Rattle.region_file.specs.declared.TrailerAnswer.{TrailerAnswer}
-use Rattle.region_file.specs.declared.TrailerAnswer.TheVariants as trailer
-use Rattle.region_file.specs.declared.WriteAnswer.{WriteAnswer}
-use Rattle.region_file.specs.declared.WriteAnswer.TheVariants as write
 
 -- a file's length without a maker's own bytes in front, which is the distance back to corner 0
 abbrev pub file_length : ℕ → ℕ
@@ -69,11 +65,3 @@ unfoldable pub with_flag_field : List ℕ → Bool → List ℕ
 with_flag_field s flag = left_by (trailer_of s) s (take (length s - 12) s ++ flag_bytes flag ++ drop (length s - 8) s)
 
 -- ---- the enums' cases
-
-abbrev pub trailer_answer : TrailerAnswer → Answer Trailer
-trailer_answer (trailer.Trailer t) = answered t
-trailer_answer (trailer.Refused cause) = refused_for cause
-
-abbrev pub write_answer : WriteAnswer → Answer ℕ
-write_answer (write.Written n) = answered n
-write_answer (write.Refused cause) = refused_for cause

@@ -3,14 +3,14 @@
 
 ghost use Rattle.std.specs.Prelude.{◌≡◌, true, ◌+◌, ◌*◌, ◌≤◌, length, take};
 ghost use Rattle.std.proofs.lemmas.List.Edits.{sets};
-ghost use Rattle.refusal.specs.Answer.{outcome_of, verdict};
+ghost use Rattle.refusal.specs.Answer.{outcome_of, verdict, answer_of};
 ghost use Rattle.region.specs.View.{view_of};
 ghost use Rattle.region.specs.Region.{Builds};
 ghost use Rattle.region_file.specs.Bytes.{number_at, bytes_of, double_at, corner_at, corners_at, corner_bytes};
-ghost use Rattle.region_file.specs.File.{file_length, trailer_of, read_of, trailer_bytes, write_of, output_of, with_flag_field, trailer_answer, write_answer};
+ghost use Rattle.region_file.specs.File.{file_length, trailer_of, read_of, trailer_bytes, write_of, output_of, with_flag_field};
 
 use coo3d::Coo3D;
-use refusal::{Cause, Outcome};
+use refusal::Cause;
 use region::{Built, Region};
 
 // What a trailer that was accepted says.
@@ -18,19 +18,6 @@ use region::{Built, Region};
 pub struct Trailer {
     pub flag: bool,
     pub count: usize,
-}
-
-#[derive(Clone, Copy)]
-pub enum TrailerAnswer {
-    Trailer(Trailer),
-    Refused(Cause),
-}
-
-#[derive(Clone, Copy)]
-pub enum WriteAnswer {
-    // The file's length.
-    Written(usize),
-    Refused(Cause),
 }
 
 // Bytes that are parameters have their bounds.
@@ -89,37 +76,37 @@ fn corners_at(s: &[u8], at: usize, count: usize) -> [Coo3D; 64]
 }
 
 // The trailer's fields, tested in their order.
-pub fn read_trailer(file: &[u8]) -> TrailerAnswer
-    ensures { trailer_answer result ≡ trailer_of file.now }
+pub fn read_trailer(file: &[u8]) -> Result<Trailer, Cause>
+    ensures { answer_of result ≡ trailer_of file.now }
 {
     let len = file.len();
     if len < 16 {
-        return TrailerAnswer::Refused(Cause::WrongTrailer);
+        return Err(Cause::WrongTrailer);
     }
     let at = len - 16;
     if u32_at(file, at) != 1 {
-        return TrailerAnswer::Refused(Cause::WrongTrailer);
+        return Err(Cause::WrongTrailer);
     }
     let flag = u32_at(file, at + 4);
     if flag > 1 {
-        return TrailerAnswer::Refused(Cause::WrongTrailer);
+        return Err(Cause::WrongTrailer);
     }
     let count = u32_at(file, at + 8) as usize;
     let distance = u32_at(file, at + 12) as usize;
     let whole = 40 * count + 16;
     if count == 0 {
-        return TrailerAnswer::Refused(Cause::NoPoint);
+        return Err(Cause::NoPoint);
     }
     if count > 64 {
-        return TrailerAnswer::Refused(Cause::TooManyPoints);
+        return Err(Cause::TooManyPoints);
     }
     if distance != whole {
-        return TrailerAnswer::Refused(Cause::WrongTrailer);
+        return Err(Cause::WrongTrailer);
     }
     if len < whole {
-        return TrailerAnswer::Refused(Cause::WrongTrailer);
+        return Err(Cause::WrongTrailer);
     }
-    TrailerAnswer::Trailer(Trailer {
+    Ok(Trailer {
         flag: flag == 1,
         count,
     })
@@ -130,8 +117,8 @@ pub fn read(file: &[u8]) -> Built
     ensures { Builds result (read_of file.now) }
 {
     match read_trailer(file) {
-        TrailerAnswer::Refused(cause) => region::refused(cause),
-        TrailerAnswer::Trailer(t) => {
+        Err(cause) => region::refused(cause),
+        Ok(t) => {
             let count = t.count;
             let corners = corners_at(file, file.len() - (40 * count + 16), count);
             region::build_flagged(corners, count, t.flag)
@@ -175,20 +162,20 @@ fn put_trailer(s: &mut [u8], at: usize, flag: bool, count: usize)
 }
 
 // Fills the front of the output and touches no later byte.
-pub fn write(r: Region, out: &mut [u8]) -> WriteAnswer
-    ensures answer { write_answer result ≡ write_of (view_of r) (length out.old) }
+pub fn write(r: Region, out: &mut [u8]) -> Result<usize, Cause>
+    ensures answer { answer_of result ≡ write_of (view_of r) (length out.old) }
     ensures out_after { out.new ≡ output_of (view_of r) out.old }
 {
     let count = r.count;
     if count == 0 {
-        return WriteAnswer::Refused(Cause::NoPoint);
+        return Err(Cause::NoPoint);
     }
     if count > 64 {
-        return WriteAnswer::Refused(Cause::TooManyPoints);
+        return Err(Cause::TooManyPoints);
     }
     let needed = 40 * count + 16;
     if out.len() < needed {
-        return WriteAnswer::Refused(Cause::ShortOutput(needed));
+        return Err(Cause::ShortOutput(needed));
     }
     let mut i: usize = 0;
     while i < count {
@@ -197,20 +184,20 @@ pub fn write(r: Region, out: &mut [u8]) -> WriteAnswer
         i += 1;
     }
     put_trailer(out, 40 * count, r.contains_south_pole, count);
-    WriteAnswer::Written(needed)
+    Ok(needed)
 }
 
 // Sets the flag field in place; a trailer that is refused leaves every byte.
-pub fn set_flag(file: &mut [u8], flag: bool) -> Outcome
+pub fn set_flag(file: &mut [u8], flag: bool) -> Result<(), Cause>
     ensures answer { outcome_of result true ≡ verdict (trailer_of file.old) }
     ensures file_after { file.new ≡ with_flag_field file.old flag }
 {
     match read_trailer(file) {
-        TrailerAnswer::Refused(cause) => Outcome::Refused(cause),
-        TrailerAnswer::Trailer(_) => {
+        Err(cause) => Err(cause),
+        Ok(_) => {
             let len = file.len();
             put_number(file, len - 12, 4, flag as u64);
-            Outcome::Done
+            Ok(())
         }
     }
 }

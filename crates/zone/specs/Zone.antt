@@ -5,14 +5,8 @@ use Rattle.std.specs.Float.{binary64}
 use Rattle.std.specs.Float.Ieee.{neg, lt, le, eq, of_bits}
 use Rattle.coo3d.specs.declared.LonLat.{LonLat}
 use Rattle.float.specs.Doubles.{◌⊕◌, ◌⊖◌, nought, half_pi, two_pi, half_open}
-use Rattle.refusal.specs.Answer.{Answer, answered, refused_for, refuse_if}
+use Rattle.refusal.specs.Answer.{Answer, answered, refuse_if}
 use Rattle.zone.specs.declared.Zone.{Zone}
-use Rattle.zone.specs.declared.ZoneAnswer.{ZoneAnswer}
-use Rattle.zone.specs.declared.ZoneAnswer.TheVariants.{Made, Refused}
-
-abbrev pub zone_answer : ZoneAnswer → Answer Zone
-zone_answer (Made z) = answered z
-zone_answer (Refused cause) = refused_for cause
 
 -- ---- new
 

@@ -2,7 +2,8 @@
 #![tactic(auto)]
 
 ghost use Rattle.std.specs.Prelude.{◌≡◌};
-ghost use Rattle.zone.specs.Zone.{bounds_hold, raised, zone_answer, zone_of, dlon_of, crossed_vertically, crossed_horizontally, lon_range_compatible, zone_contains, zone_contains_exclusive, vertices_of};
+ghost use Rattle.refusal.specs.Answer.{answer_of};
+ghost use Rattle.zone.specs.Zone.{bounds_hold, raised, zone_of, dlon_of, crossed_vertically, crossed_horizontally, lon_range_compatible, zone_contains, zone_contains_exclusive, vertices_of};
 
 use coo3d::LonLat;
 use refusal::Cause;
@@ -16,12 +17,6 @@ pub struct Zone {
     pub lat_max: f64,
     // The zone runs over the meridian 0: lon_min > lon_max.
     pub cross_primary_meridian: bool,
-}
-
-#[derive(Clone, Copy)]
-pub enum ZoneAnswer {
-    Made(Zone),
-    Refused(Cause),
 }
 
 // The assertions of upstream's `Zone::new`.
@@ -49,11 +44,11 @@ fn raise(lat_max: f64) -> f64
 }
 
 impl Zone {
-    pub fn new(lon_min: f64, lat_min: f64, lon_max: f64, lat_max: f64) -> ZoneAnswer
-        ensures { zone_answer result ≡ zone_of lon_min lat_min lon_max lat_max }
+    pub fn new(lon_min: f64, lat_min: f64, lon_max: f64, lat_max: f64) -> Result<Zone, Cause>
+        ensures { answer_of result ≡ zone_of lon_min lat_min lon_max lat_max }
     {
         if bounds_hold(lon_min, lat_min, lon_max, lat_max) {
-            ZoneAnswer::Made(Zone {
+            Ok(Zone {
                 lon_min,
                 lat_min,
                 lon_max,
@@ -61,7 +56,7 @@ impl Zone {
                 cross_primary_meridian: lon_min > lon_max,
             })
         } else {
-            ZoneAnswer::Refused(Cause::ZoneBounds)
+            Err(Cause::ZoneBounds)
         }
     }
 

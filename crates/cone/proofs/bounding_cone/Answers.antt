@@ -5,6 +5,9 @@ use mathlib.Core.Bool.{Bool, true, false}
 use mathlib.Core.List.{List, []}
 use lib.Ieee.{Float}
 use lib.ListN.{take}
+use Rattle.std.specs.declared.result.Result.{Result}
+use Rattle.std.specs.Prelude.{⊤}
+use Rattle.refusal.specs.declared.Cause.{Cause}
 use Rattle.coo3d.specs.declared.Coo3D.{Coo3D}
 use Rattle.coo3d.specs.declared.Vect3.{Vect3}
 use Rattle.coo3d.specs.declared.UnitVect3.{UnitVect3}
@@ -12,7 +15,6 @@ use Rattle.coo3d.specs.Vectors.{is_finite_unit}
 use Rattle.domain.specs.Checks.{points_of}
 use Rattle.domain.proofs.Points.{points_count}
 use Rattle.refusal.specs.Answer.{answered, refused, outcome_of}
-use Rattle.refusal.specs.declared.Outcome.{Outcome}
 use Rattle.cone.specs.Cone.{bounding_cone_of, cone_at, center_of, gravity_center, d2_max_of}
 use Rattle.cone.proofs.bounding_cone.Goals as goal
 use Rattle.cone.proofs.bounding_cone.Goals.{After-ps-1}
@@ -33,7 +35,7 @@ not_finite u ps b e t = simp (sym e ∙ t)
 
 -- what the check answered, where it is done
 done : (c : After-ps-1) → answered (take c.args.count c.check_points-checked.result.points) ≡ points_of c.args.points c.args.count
-done c = ap (λ (o : Outcome). outcome_of o (take c.args.count c.check_points-checked.result.points)) (sym c.in-Done.is) ∙ c.check_points-checked.ensures.answer
+done c = ap (λ (o : Result ⊤ Cause). outcome_of o (take c.args.count c.check_points-checked.result.points)) (sym c.in-Ok.is) ∙ c.check_points-checked.ensures.answer
 
 pub gravity_center-requires : goal.gravity_center-requires
 gravity_center-requires c = (points_count _ _ _ (sym (done c))).1
@@ -41,11 +43,11 @@ gravity_center-requires c = (points_count _ _ _ (sym (done c))).1
 pub d2_max-requires : goal.d2_max-requires
 d2_max-requires c = (points_count _ _ _ (sym (done (goal.at.d2_max-requires c).After-ps-1))).1
 
-pub returns-in-Refused : goal.returns-in-Refused
-returns-in-Refused c =
+pub returns-in-Err : goal.returns-in-Err
+returns-in-Err c =
     let a = c.args in
     let r = c.check_points-checked in
-    passed_on a.points a.count _ _ (ap (λ (o : Outcome). outcome_of o (take a.count r.result.points)) (sym c.in-Refused.is) ∙ r.ensures.answer)
+    passed_on a.points a.count _ _ (ap (λ (o : Result ⊤ Cause). outcome_of o (take a.count r.result.points)) (sym c.in-Err.is) ∙ r.ensures.answer)
 
 pub returns-then-is_finite : goal.returns-then-is_finite
 returns-then-is_finite c =

@@ -1,9 +1,9 @@
 -- `cost::contains_with_range_count` meets its contract. Assumes nothing.
-use mathlib.Core.Path.{◌≡◌, sym, ap, ◌∙◌}
+use mathlib.Core.Path.{◌≡◌, refl, sym, ap, ◌∙◌}
 use mathlib.Core.List.{[], ◌∷◌}
 use lib.ListN.{length}
 use borrow.Author.Rules.{rules}
-use Rattle.domain.specs.Checks.{point_answer}
+use Rattle.refusal.specs.Answer.{answer_of}
 use Rattle.domain.proofs.Counts.{count_none, count_many}
 use Rattle.lists.specs.Counts.{exactly_one}
 use Rattle.region.specs.Edges.{is_counted}
@@ -31,7 +31,7 @@ returns-in_default c =
     let some = c.if-count-eq0.false in
     let few = c.if-count-gt64.false in
     let v = view_of c.args.r in
-    let told = ap point_answer (sym c.in_default.is) ∙ c.check_point.ensures in
+    let told = ap answer_of (sym c.in_default.is) ∙ c.check_point.ensures in
     not_ranged _ v _ 1 (0 ∷ []) (asked_outside v.count _ (λ q. contained q v) some few _ _ told) (asked_outside v.count _ (λ q. in_range_count q v) some few _ _ told) c.refused-in_default.ensures
 
 pub loop-i-init : goal.loop-i-init
@@ -52,7 +52,7 @@ loop-i-preserved c =
     let r = c.args.r in
     let e : length r.vertices ≡ 64 = search unmap in
     let d : length r.cross_products ≡ 64 = search unmap in
-    let p = c.in-Point.p in
+    let p = c.in-Ok.p in
     let l = c.loop-i in
     let few = c.if-count-gt64.false in
     let at = edge_at (held_of r) l.from l.i in
@@ -72,5 +72,5 @@ returns c =
     let l = c.loop-i in
     let some = c.if-count-eq0.false in
     let few = c.if-count-gt64.false in
-    let told = ap point_answer (sym c.in-Point.is) ∙ c.check_point.ensures in
-    ranged _ (view_of r) _ _ _ some few told c.decide-decision.ensures (all_ranged _ r _ _ l.i l.from l.invariant (room _ _ e few) (search rules))
+    let told = ap answer_of (sym c.in-Ok.is) ∙ c.check_point.ensures in
+    ranged _ (view_of r) _ _ _ some few told refl (all_ranged _ r _ _ l.i l.from l.invariant (room _ _ e few) (search rules))

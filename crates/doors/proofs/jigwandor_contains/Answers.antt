@@ -8,4 +8,4 @@ pub returns-in_default : goal.returns-in_default
 returns-in_default c = c.outcome_code.ensures ∙ contains_unread _ _ _ _ (as_answer _ _ c.read-read.ensures) _ c.in_default.is
 
 pub returns : goal.returns
-returns c = c.decision_code.ensures ∙ contains_done _ _ _ _ (as_answer _ _ c.read-read.ensures) _ c.in-Done.is c.contains.ensures
+returns c = c.decision_code.ensures ∙ contains_done _ _ _ _ (as_answer _ _ c.read-read.ensures) _ c.in-Ok.is c.contains.ensures

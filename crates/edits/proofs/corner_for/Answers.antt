@@ -1,7 +1,7 @@
 -- `edits::corner_for` meets its contract. Assumes nothing.
 use mathlib.Core.Path.{sym, ap, ◌∙◌}
 use borrow.Author.Tests.{eq-eqb, ne_eqb, le-ltb, lt-ltb}
-use Rattle.domain.specs.Checks.{point_answer}
+use Rattle.refusal.specs.Answer.{answer_of}
 use Rattle.domain.proofs.Points.{point_refused}
 use Rattle.edits.proofs.corner_for.Goals as goal
 
@@ -20,7 +20,7 @@ returns-in_default c =
       ne_eqb _ _ c.if-count-eq0.false,
       le-ltb _ _ c.if-count-most.false,
       c.if-not-there.false,
-      point_refused 0 _ _ _ (ap point_answer (sym c.in_default.is) ∙ c.check_point.ensures),
+      point_refused 0 _ _ _ (ap answer_of (sym c.in_default.is) ∙ c.check_point.ensures),
     )
 
 pub returns : goal.returns
@@ -29,5 +29,5 @@ returns c =
       ne_eqb _ _ c.if-count-eq0.false,
       le-ltb _ _ c.if-count-most.false,
       c.if-not-there.false,
-      sym (ap point_answer (sym c.in-Point.is) ∙ c.check_point.ensures),
+      sym (ap answer_of (sym c.in-Ok.is) ∙ c.check_point.ensures),
     )

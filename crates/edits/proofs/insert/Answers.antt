@@ -3,7 +3,6 @@ use Prim.Native.Nat.{◌≤◌, ◌<◌}
 use native.Mathlib.Omega.{arith}
 use mathlib.Core.Path.{◌≡◌, refl, sym, ap, ◌∙◌}
 use lib.ListN.{length}
-use Rattle.domain.specs.Checks.{point_answer}
 use Rattle.region.specs.View.{nowhere}
 use Rattle.region.proofs.Edges.{nothing}
 use Rattle.region.proofs.Lengths.{unmap}
@@ -13,6 +12,7 @@ use Rattle.edits.proofs.Checked.{refused_edit, done_edit, refused_by, done_by, i
 use Rattle.edits.proofs.Moved.{before_at, carrying_starts, carrying_turn, inserted}
 use Rattle.edits.proofs.Seams.{insert_starts, insert_front, insert_carried, insert_counted}
 use borrow.Author.Rules.{rules}
+use Rattle.refusal.specs.Answer.{answer_of}
 use Rattle.edits.proofs.insert.Goals as goal
 use Rattle.edits.proofs.insert.Goals.{Start}
 
@@ -25,20 +25,20 @@ wide c = search unmap
 pub index_before-h-requires : goal.index_before-h-requires
 index_before-h-requires c =
     let a = c.args in
-    let k = insert_inside a.r.count a.i a.corner _ (ap point_answer (sym c.in-Point.is) ∙ c.corner_for-check.ensures) in
+    let k = insert_inside a.r.count a.i a.corner _ (ap answer_of (sym c.in-Ok.is) ∙ c.corner_for-check.ensures) in
     let few = k.1.0 in
     (k.0, (omega (arith, few), k.1.1))
 
 pub overflow_add-count : goal.overflow_add-count
 overflow_add-count c =
     let a = c.args in
-    let k = insert_inside a.r.count a.i a.corner _ (ap point_answer (sym c.in-Point.is) ∙ c.corner_for-check.ensures) in
+    let k = insert_inside a.r.count a.i a.corner _ (ap answer_of (sym c.in-Ok.is) ∙ c.corner_for-check.ensures) in
     let few = k.1.0 in omega (arith, few)
 
 pub next_index-j-requires : goal.next_index-j-requires
 next_index-j-requires c =
     let a = c.args in
-    let k = insert_inside a.r.count a.i a.corner _ (ap point_answer (sym c.in-Point.is) ∙ c.corner_for-check.ensures) in
+    let k = insert_inside a.r.count a.i a.corner _ (ap answer_of (sym c.in-Ok.is) ∙ c.corner_for-check.ensures) in
     let few = k.1.0 in
     let there = k.1.1 in
     (omega (arith, there), omega (arith, few))
@@ -85,12 +85,12 @@ loop-k-2-preserved c =
       insert_carried a.r.vertices a.r.count a.i (long s (search rules)) _ (search rules) inv.1 inv.0.corners (search rules) _ c.crosses_seam-crosses-in-loop-k-2.ensures,
     )
 
-pub overflow_add-seam_count-in-Point : goal.overflow_add-seam_count-in-Point
-overflow_add-seam_count-in-Point c =
+pub overflow_add-seam_count-in-Ok : goal.overflow_add-seam_count-in-Ok
+overflow_add-seam_count-in-Ok c =
     let inv = c.loop-k-2.invariant in
     let most = inv.0.corners.most in
     let room = c.next_index-j.ensures.1.1.1 in
-    record { fits = counting_room inv.1 (omega (arith, most, room)) c.crosses_seam-crosses-in-Point.result }
+    record { fits = counting_room inv.1 (omega (arith, most, room)) c.crosses_seam-crosses-in-Ok.result }
 
 pub loop-m-init : goal.loop-m-init
 loop-m-init c =
@@ -103,10 +103,10 @@ loop-m-preserved c =
     let inv = c.loop-m.invariant in
     record { normals = carrying_turn nothing inv.normals (search rules) (search rules); corners = inv.corners; flag = inv.flag }
 
-pub returns-in-Refused : goal.returns-in-Refused
-returns-in-Refused c =
+pub returns-in-Err : goal.returns-in-Err
+returns-in-Err c =
     let a = c.args in
-    refused_edit _ _ _ _ refl (refused_by _ _ _ _ (asked_refused (insert a.i) (insert_asked a.r.count a.i a.corner) _ _ (ap point_answer (sym c.in-Refused.is) ∙ c.corner_for-check.ensures)))
+    refused_edit _ _ _ _ refl (refused_by _ _ _ _ (asked_refused (insert a.i) (insert_asked a.r.count a.i a.corner) _ _ (ap answer_of (sym c.in-Err.is) ∙ c.corner_for-check.ensures)))
 
 pub returns-after-loop-m : goal.returns-after-loop-m
 returns-after-loop-m c =
@@ -114,12 +114,12 @@ returns-after-loop-m c =
     let a = s.args in
     let next = c.next_index-j in
     let full = long s (search rules) in
-    let asked = asked_done (insert a.i) (insert_asked a.r.count a.i a.corner) _ (ap point_answer (sym c.in-Point.is) ∙ c.corner_for-check.ensures) in
+    let asked = asked_done (insert a.i) (insert_asked a.r.count a.i a.corner) _ (ap answer_of (sym c.in-Ok.is) ∙ c.corner_for-check.ensures) in
     let before = c.index_before-h.ensures in
     let some = before.1 in
     let from = before_at a.r.vertices a.r.count a.i _ (omega (arith, some)) (search rules) full before.0 in
     let inv = c.loop-k-2.invariant in
     let passed = c.loop-k-2-test.false in
-    let last = insert_carried a.r.vertices a.r.count a.i full _ (search rules) inv.1 inv.0.corners (search rules) _ c.crosses_seam-crosses-in-Point.ensures in
+    let last = insert_carried a.r.vertices a.r.count a.i full _ (search rules) inv.1 inv.0.corners (search rules) _ c.crosses_seam-crosses-in-Ok.ensures in
     let seams = insert_counted a.r.vertices a.r.count a.i full _ (search rules) last (omega (arith, passed)) in
     done_edit _ _ _ refl (done_by _ _ _ _ asked (inserted inv.0 passed c.loop-m.invariant c.loop-m-test.false (search rules) _ _ _ _ full from next.ensures.0 next.ensures.1.0 c.edge_normal-normal.ensures c.edge_normal-after.ensures seams))

@@ -4,7 +4,6 @@ use native.Mathlib.Omega.{arith}
 use mathlib.Core.Path.{◌≡◌, refl, sym, ap, ◌∙◌}
 use mathlib.Core.List.{List}
 use lib.ListN.{length, set, length-set}
-use Rattle.domain.specs.Checks.{point_answer}
 use Rattle.region.proofs.Lengths.{unmap}
 use Rattle.region.proofs.Seam.{counting_room, seams_start, seams_turn, seams_end}
 use Rattle.edits.specs.Edits.{put}
@@ -12,6 +11,7 @@ use Rattle.edits.proofs.Checked.{refused_edit, done_edit, refused_by, done_by, p
 use Rattle.edits.proofs.Moved.{before_at}
 use Rattle.edits.proofs.PutAt.{put_two, put_only}
 use borrow.Author.Rules.{rules}
+use Rattle.refusal.specs.Answer.{answer_of}
 use Rattle.edits.proofs.put.Goals as goal
 use Rattle.edits.proofs.put.Goals.{Start}
 
@@ -25,7 +25,7 @@ still l i a h = rw (length-set l i a) h
 pub next_index-j-requires : goal.next_index-j-requires
 next_index-j-requires c =
     let a = c.args in
-    let k = put_inside a.r.count a.i a.corner _ (ap point_answer (sym c.in-Point.is) ∙ c.corner_for-check.ensures) in
+    let k = put_inside a.r.count a.i a.corner _ (ap answer_of (sym c.in-Ok.is) ∙ c.corner_for-check.ensures) in
     (k.1.1, k.1.0)
 
 pub loop-k-init : goal.loop-k-init
@@ -48,10 +48,10 @@ loop-k-preserved c =
     let below = c.loop-k-test.true in
     (omega (arith, below), seams_turn _ _ full c.loop-k.invariant.1 below _ c.crosses_seam-crosses.ensures)
 
-pub returns-in-Refused : goal.returns-in-Refused
-returns-in-Refused c =
+pub returns-in-Err : goal.returns-in-Err
+returns-in-Err c =
     let a = c.args in
-    refused_edit _ _ _ _ refl (refused_by _ _ _ _ (asked_refused (put a.i) (put_asked a.r.count a.i a.corner) _ _ (ap point_answer (sym c.in-Refused.is) ∙ c.corner_for-check.ensures)))
+    refused_edit _ _ _ _ refl (refused_by _ _ _ _ (asked_refused (put a.i) (put_asked a.r.count a.i a.corner) _ _ (ap answer_of (sym c.in-Err.is) ∙ c.corner_for-check.ensures)))
 
 pub returns-then-count-eq1 : goal.returns-then-count-eq1
 returns-then-count-eq1 c =
@@ -59,7 +59,7 @@ returns-then-count-eq1 c =
     let a = s.args in
     let next = c.next_index-j in
     let full = long s next.ensures.1.1.1 in
-    let asked = asked_done (put a.i) (put_asked a.r.count a.i a.corner) _ (ap point_answer (sym c.in-Point.is) ∙ c.corner_for-check.ensures) in
+    let asked = asked_done (put a.i) (put_asked a.r.count a.i a.corner) _ (ap answer_of (sym c.in-Ok.is) ∙ c.corner_for-check.ensures) in
     let seams = seams_end _ _ (still a.r.vertices a.i _ full) c.loop-k.invariant.1 c.loop-k-test.false in
     done_edit _ _ _ refl (done_by _ _ _ _ asked (put_only a.r.count a.r.vertices a.r.cross_products a.i next.result _ next.ensures.1.1.0 full next.ensures.0 next.ensures.1.0 a.r.contains_south_pole a.r.seam_count _ c.edge_normal-only.result c.if-count-eq1.true c.edge_normal-only.ensures seams))
 
@@ -69,7 +69,7 @@ returns-else-count-eq1 c =
     let a = s.args in
     let next = c.next_index-j in
     let full = long s next.ensures.1.1.1 in
-    let asked = asked_done (put a.i) (put_asked a.r.count a.i a.corner) _ (ap point_answer (sym c.in-Point.is) ∙ c.corner_for-check.ensures) in
+    let asked = asked_done (put a.i) (put_asked a.r.count a.i a.corner) _ (ap answer_of (sym c.in-Ok.is) ∙ c.corner_for-check.ensures) in
     let from = before_at a.r.vertices a.r.count a.i _ (search rules) (search rules) full c.index_before-h.ensures.0 in
     let seams = seams_end _ _ (still a.r.vertices a.i _ full) c.loop-k.invariant.1 c.loop-k-test.false in
     done_edit _ _ _ refl (done_by _ _ _ _ asked (put_two a.r.count a.r.vertices a.r.cross_products a.i next.result _ next.ensures.1.1.0 full next.ensures.0 next.ensures.1.0 a.r.contains_south_pole a.r.seam_count _ _ c.edge_normal-first.result c.edge_normal-second.result from c.edge_normal-first.ensures c.edge_normal-second.ensures seams))

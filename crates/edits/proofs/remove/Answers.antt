@@ -20,7 +20,7 @@ long : (c : Start) → c.args.r.count ≤ 64 → c.args.r.count ≤ length c.arg
 long c few = let e : length c.args.r.vertices ≡ 64 = search unmap in omega (arith, few)
 
 pub index_left-j-requires : goal.index_left-j-requires
-index_left-j-requires c = c.removable-outcome.ensures.1 c.in-Done.is
+index_left-j-requires c = c.removable-outcome.ensures.1 c.in-Ok.is
 
 pub loop-k-init : goal.loop-k-init
 loop-k-init c =
@@ -98,10 +98,10 @@ loop-m-preserved c =
     let inv = c.loop-m.invariant in
     record { normals = closing_turn nothing inv.normals (search rules) (search rules); corners = inv.corners; flag = inv.flag }
 
-pub returns-in-Refused : goal.returns-in-Refused
-returns-in-Refused c =
+pub returns-in-Err : goal.returns-in-Err
+returns-in-Err c =
     let a = c.args in
-    refused_edit _ _ _ _ refl (refused_by _ _ _ _ (sym (ap (λ o. outcome_of o (remove a.i)) (sym c.in-Refused.is) ∙ c.removable-outcome.ensures.0)))
+    refused_edit _ _ _ _ refl (refused_by _ _ _ _ (sym (ap (λ o. outcome_of o (remove a.i)) (sym c.in-Err.is) ∙ c.removable-outcome.ensures.0)))
 
 pub returns-after-loop-m : goal.returns-after-loop-m
 returns-after-loop-m c =
@@ -114,7 +114,7 @@ returns-after-loop-m c =
     let few = left.1.1 in
     let full = long s few in
     let from = before_at a.r.vertices a.r.count a.i _ (search rules) (search rules) full c.index_before-h.ensures.0 in
-    let told = sym (ap (λ o. outcome_of o (remove a.i)) (sym c.in-Done.is) ∙ c.removable-outcome.ensures.0) in
+    let told = sym (ap (λ o. outcome_of o (remove a.i)) (sym c.in-Ok.is) ∙ c.removable-outcome.ensures.0) in
     let inv = c.loop-k-2.invariant in
     let passed = c.loop-k-2-test.false in
     let seams = remove_counted a.r.vertices a.r.count a.i full there inv.1 (omega (arith, passed)) in

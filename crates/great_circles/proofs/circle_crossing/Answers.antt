@@ -1,21 +1,21 @@
 -- `great_circles::circle_crossing` meets its contract. Assumes nothing.
 use mathlib.Core.Path.{◌≡◌, sym, ◌∙◌}
 use mathlib.Core.Bool.{Bool, true, false}
+use Rattle.std.specs.declared.option.Option.TheVariants.{None, Some}
 use Rattle.coo3d.specs.declared.UnitVect3.{UnitVect3}
 use Rattle.coo3d.specs.declared.Vect3.{Vect3}
 use Rattle.coo3d.specs.Vectors.{vect_of_point, cross_of, normalized_of, unit_opposite_of}
-use Rattle.crossings.specs.declared.Crossing.TheVariants.{None, At}
 use Rattle.region.specs.Edges.{Edge}
 use Rattle.great_circles.specs.Circles.{is_beyond, circle_crossing}
 use Rattle.great_circles.proofs.circle_crossing.Goals as goal
 
 module _ (n : Vect3) (e : Edge) (pa pb v : Vect3) (i : UnitVect3) (first : Bool) (ea : pa ≡ vect_of_point e.from) (eb : pb ≡ vect_of_point e.to) (ev : v ≡ cross_of e.normal n) (ei : i ≡ normalized_of v) (ef : first ≡ is_beyond i pa pb) where
-  at_first : first ≡ true → At i ≡ circle_crossing n e
+  at_first : first ≡ true → Some i ≡ circle_crossing n e
   unfolding circle_crossing
   at_first t = rw (sym ea, sym eb, sym ev, sym ei, sym ef ∙ t)
 
   module _ (o : UnitVect3) (second : Bool) (eo : o ≡ unit_opposite_of i) (es : second ≡ is_beyond o pa pb) (nf : first ≡ false) where
-    at_second : second ≡ true → At o ≡ circle_crossing n e
+    at_second : second ≡ true → Some o ≡ circle_crossing n e
     unfolding circle_crossing
     at_second t = rw (sym ea, sym eb, sym ev, sym ei, sym ef ∙ nf, sym eo, sym es ∙ t)
 

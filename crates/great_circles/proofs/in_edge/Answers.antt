@@ -2,18 +2,18 @@
 use mathlib.Core.Path.{◌≡◌, sym}
 use mathlib.Core.Bool.{true, false, ◌&&◌}
 use lib.Ieee.{Float, lt}
+use Rattle.std.specs.declared.option.Option.TheVariants.{None, Some}
 use Rattle.coo3d.specs.declared.Coo3D.{Coo3D}
 use Rattle.coo3d.specs.declared.UnitVect3.{UnitVect3}
 use Rattle.coo3d.specs.declared.Vect3.{Vect3}
 use Rattle.coo3d.specs.Vectors.{vect_of_point, vect_of_unit, dot_of}
-use Rattle.crossings.specs.declared.Crossing.TheVariants.{None, At}
 use Rattle.float.specs.Doubles.{abs_of}
 use Rattle.great_circles.specs.Arcs.{in_edge}
 use Rattle.great_circles.proofs.in_edge.Goals as goal
 
 -- the two comparisons, by what the calls answered
 module _ (i : UnitVect3) (pa pb : Coo3D) (va vb v : Vect3) (papb da db xa xb : Float) (ea : va ≡ vect_of_point pa) (eb : vb ≡ vect_of_point pb) (ev : v ≡ vect_of_unit i) (ep : papb ≡ dot_of va vb) (fa : da ≡ dot_of va v) (ga : xa ≡ abs_of da) (fb : db ≡ dot_of vb v) (gb : xb ≡ abs_of db) where
-  held : lt papb xa && lt papb xb ≡ true → At i ≡ in_edge i pa pb
+  held : lt papb xa && lt papb xb ≡ true → Some i ≡ in_edge i pa pb
   unfolding in_edge
   held t = rw (sym ea, sym eb, sym ev, sym ep, sym fa, sym fb, sym ga, sym gb, t)
 

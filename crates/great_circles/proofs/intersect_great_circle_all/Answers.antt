@@ -5,9 +5,9 @@ use mathlib.Core.Path.{◌≡◌, sym, ap, ◌∙◌, subst}
 use mathlib.Core.List.{List, [], ◌∷◌}
 use borrow.Author.Rules.{rules}
 use lib.ListN.{length, get_or}
-use Rattle.crossings.specs.declared.Tested.TheVariants as tested
+use Rattle.std.specs.declared.result.Result.TheVariants.{Ok}
 use Rattle.domain.proofs.Counts.{count_none, count_many, count_few}
-use Rattle.refusal.specs.Answer.{Answer, answered, refused, and_then}
+use Rattle.refusal.specs.Answer.{Answer, answered, refused, and_then, answer_of}
 use Rattle.region.specs.View.{view_of, nowhere, edges_of}
 use Rattle.region.proofs.Lengths.{unmap}
 use Rattle.region.proofs.Containing.{room}
@@ -17,10 +17,10 @@ use Rattle.crossings.proofs.Gather.{Turn, turned, gathered_start, gathered_none,
 use Rattle.great_circles.specs.Circles.{circle_crossing}
 use Rattle.great_circles.specs.Queries.{circle_all_of}
 use Rattle.coo3d.specs.declared.Vect3.{Vect3}
-use Rattle.domain.specs.Checks.{vector_answer, vector_at, with_count}
+use Rattle.domain.specs.Checks.{vector_at, with_count}
 use Rattle.domain.proofs.Points.{vector_refused}
 use Rattle.great_circles.proofs.intersect_great_circle_all.Goals as goal
-use Rattle.great_circles.proofs.intersect_great_circle_all.Goals.{After-test_finite, In-Vector}
+use Rattle.great_circles.proofs.intersect_great_circle_all.Goals.{After-test_finite, In-Ok}
 
 module _ {A : Type 0} (count : ℕ) (n : Vect3) (next : Vect3 → Answer A) (some : count ≡ 0 → ⊥) (fits : count ≤ 64) where
   outside : (k : ℕ) (vs : List ℕ) → refused k vs ≡ vector_at 0 n → with_count count (and_then (vector_at 0 n) next) ≡ refused 1 (0 ∷ [])
@@ -30,14 +30,14 @@ module _ {A : Type 0} (count : ℕ) (n : Vect3) (next : Vect3 → Answer A) (som
   inside m e = sym (count_few count _ some fits ∙ rw (sym e))
 
 -- the answer, once the argument is checked
-whole : (x : In-Vector) → all_of (crossings_of (circle_crossing x.in-Vector.m) (edges_of (view_of x.args.r))) ≡ circle_all_of (view_of x.args.r) x.args.n
+whole : (x : In-Ok) → all_of (crossings_of (circle_crossing x.in-Ok.m) (edges_of (view_of x.args.r))) ≡ circle_all_of (view_of x.args.r) x.args.n
 unfolding circle_all_of
 whole x =
     let r = x.args.r in
-    inside r.count x.args.n (λ k. all_of (crossings_of (circle_crossing k) (edges_of (view_of r)))) x.if-count-eq0.false x.if-count-gt64.false _ (ap vector_answer (sym x.in-Vector.is) ∙ x.check_vector.ensures)
+    inside r.count x.args.n (λ k. all_of (crossings_of (circle_crossing k) (edges_of (view_of r)))) x.if-count-eq0.false x.if-count-gt64.false _ (ap answer_of (sym x.in-Ok.is) ∙ x.check_vector.ensures)
 
 -- the turn of the loop
-here : (y : After-test_finite) → Turn (circle_crossing y.in-Vector.m) (edges_left y.args.r y.loop-i.from y.loop-i.i) (edges_left y.args.r (get_or y.args.r.vertices y.loop-i.i nowhere) (y.loop-i.i + 1)) y.test_finite.result
+here : (y : After-test_finite) → Turn (circle_crossing y.in-Ok.m) (edges_left y.args.r y.loop-i.from y.loop-i.i) (edges_left y.args.r (get_or y.args.r.vertices y.loop-i.i nowhere) (y.loop-i.i + 1)) y.test_finite.result
 here y =
     let r = y.args.r in
     let e : length r.vertices ≡ 64 = search unmap in
@@ -55,7 +55,7 @@ returns-then-count-gt64 c = subst (Lists _) (sym (count_many _ _ c.if-count-eq0.
 
 pub returns-in_default : goal.returns-in_default
 unfolding circle_all_of
-returns-in_default c = subst (Lists _) (sym (outside _ _ _ c.if-count-eq0.false c.if-count-gt64.false _ _ (ap vector_answer (sym c.in_default.is) ∙ c.check_vector.ensures))) c.refused-in_default.ensures
+returns-in_default c = subst (Lists _) (sym (outside _ _ _ c.if-count-eq0.false c.if-count-gt64.false _ _ (ap answer_of (sym c.in_default.is) ∙ c.check_vector.ensures))) c.refused-in_default.ensures
 
 pub loop-i-init : goal.loop-i-init
 loop-i-init c =
@@ -67,22 +67,22 @@ loop-i-init c =
 pub returns-in_default-test_finite : goal.returns-in_default-test_finite
 returns-in_default-test_finite c =
     let y = (goal.at.returns-in_default-test_finite c).After-test_finite in
-    let x = (goal.at.returns-in_default-test_finite c).In-Vector in
+    let x = (goal.at.returns-in_default-test_finite c).In-Ok in
     gathered_refused c.loop-i.invariant.1 _ (whole x) (here y) _ c.in_default-test_finite.is _ c.refused-in_default-test_finite.ensures
 
 pub loop-i-preserved : goal.loop-i-preserved
 loop-i-preserved c =
     let y = (goal.at.loop-i-preserved c).After-test_finite in
-    let t = c.in-Crossing.is in
+    let t = c.in-Ok-test_finite.is in
     let g = c.loop-i.invariant.1 in
     elim c.match-c.branch [
-      | goal.in-At w ↦ (search rules, gathered_at (here y) g _ (t ∙ ap tested.Crossing w.in-At.is) w.points-is w.len-is)
-      | goal.in-None w ↦ (search rules, gathered_none (here y) g (t ∙ ap tested.Crossing w.in-None.is) w.points-is w.len-is)
+      | goal.in-Some w ↦ (search rules, gathered_at (here y) g _ (t ∙ ap Ok w.in-Some.is) w.points-is w.len-is)
+      | goal.in-None w ↦ (search rules, gathered_none (here y) g (t ∙ ap Ok w.in-None.is) w.points-is w.len-is)
     ]
 
 pub returns : goal.returns
 returns c =
-    let x = (goal.at.returns c).In-Vector in
+    let x = (goal.at.returns c).In-Ok in
     let r = c.args.r in
     let l = c.loop-i in
     let e : length r.vertices ≡ 64 = search unmap in

@@ -4,12 +4,12 @@ use native.Mathlib.Omega.{arith}
 use mathlib.Core.Path.{◌≡◌, sym, ap, ◌∙◌}
 use mathlib.Core.List.{List, [], ◌∷◌}
 use lib.ListN.{length}
-use Rattle.crossings.specs.declared.Crossing.{Crossing}
-use Rattle.crossings.specs.declared.Crossing.TheVariants.{None}
-use Rattle.crossings.specs.Crossings.{crossings_of, tested_answer, tested_of, first_of}
-use Rattle.domain.specs.Checks.{point_answer}
+use Rattle.std.specs.declared.option.Option.{Option}
+use Rattle.std.specs.declared.option.Option.TheVariants.{None}
+use Rattle.coo3d.specs.declared.UnitVect3.{UnitVect3}
+use Rattle.crossings.specs.Crossings.{crossings_of, tested_of, first_of}
 use Rattle.domain.proofs.Counts.{count_none, count_many}
-use Rattle.refusal.specs.Answer.{answered}
+use Rattle.refusal.specs.Answer.{answered, answer_of}
 use Rattle.region.specs.declared.Region.{Region}
 use Rattle.region.specs.Edges.{Edge}
 use Rattle.region.specs.View.{view_of}
@@ -35,16 +35,16 @@ whole x =
     ∙ ap first_of (by_longitude (view_of r) _ _ _ _ x.west_of-west.ensures x.east_of-east.ensures)
     ∙ sym
     (both_inside r.count x.args.a x.args.b (λ p q. first_of (arc_crossings (view_of r) p q)) x.if-count-eq0.false x.if-count-gt64.false _
-    (ap point_answer (sym x.in-Point.is) ∙ x.check_point.ensures)
+    (ap answer_of (sym x.in-Ok.is) ∙ x.check_point.ensures)
     _
-    (ap point_answer (sym x.in-Point-check_point.is) ∙ x.check_point-2.ensures))
+    (ap answer_of (sym x.in-Ok-check_point.is) ∙ x.check_point-2.ensures))
 
 -- the edge of a turn, and what its crossing is to the answer
 module _ (z : After-are_overlapping_in_lon) where
   abbrev region : Region
   region = z.args.r
 
-  abbrev hit : Edge → Crossing
+  abbrev hit : Edge → Option UnitVect3
   hit = arc_crossing z.west_of-west.result z.east_of-east.result
 
   abbrev at : ℕ
@@ -78,7 +78,7 @@ module _ (z : After-are_overlapping_in_lon) where
       }
 
 -- what the test of the crossing told
-told : (y : After-test_finite) → tested_answer y.test_finite.result ≡ tested_of (arc_crossing y.west_of-west.result y.east_of-east.result (edge_by y.args.r.vertices y.args.r.cross_products y.loop-i.before y.loop-i.i))
+told : (y : After-test_finite) → answer_of y.test_finite.result ≡ tested_of (arc_crossing y.west_of-west.result y.east_of-east.result (edge_by y.args.r.vertices y.args.r.cross_products y.loop-i.before y.loop-i.i))
 told y =
     let z = y.before.before.before.before.before.before.before in
     y.test_finite.ensures ∙ ap tested_of (crossed (numbers z) y.dot_product-ua.ensures y.dot_product-ub.ensures y.if-are_overlapping_in_lon.true y.if-ua-ub.true y.point_in_edge.ensures)
@@ -93,11 +93,11 @@ returns-then-count-gt64 c = sym (count_many _ _ c.if-count-eq0.false c.if-count-
 
 pub returns-in_default : goal.returns-in_default
 unfolding arc_first_of
-returns-in_default c = sym (first_outside _ _ _ _ c.if-count-eq0.false c.if-count-gt64.false _ _ (ap point_answer (sym c.in_default.is) ∙ c.check_point.ensures))
+returns-in_default c = sym (first_outside _ _ _ _ c.if-count-eq0.false c.if-count-gt64.false _ _ (ap answer_of (sym c.in_default.is) ∙ c.check_point.ensures))
 
 pub returns-in_default-check_point : goal.returns-in_default-check_point
 unfolding arc_first_of
-returns-in_default-check_point c = sym (second_outside _ _ _ _ c.if-count-eq0.false c.if-count-gt64.false _ (ap point_answer (sym c.in-Point.is) ∙ c.check_point.ensures) _ _ (ap point_answer (sym c.in_default-check_point.is) ∙ c.check_point-2.ensures))
+returns-in_default-check_point c = sym (second_outside _ _ _ _ c.if-count-eq0.false c.if-count-gt64.false _ (ap answer_of (sym c.in-Ok.is) ∙ c.check_point.ensures) _ _ (ap answer_of (sym c.in_default-check_point.is) ∙ c.check_point-2.ensures))
 
 pub overflow_sub-before : goal.overflow_sub-before
 overflow_sub-before c = omega (arith, c.if-count-eq0.false)
@@ -121,14 +121,14 @@ returns-in_default-test_finite c =
     let y = (goal.at.returns-in_default-test_finite c).After-test_finite in
     let z = (goal.at.returns-in_default-test_finite c).After-are_overlapping_in_lon in
     let x = (goal.at.returns-in_default-test_finite c).After-to_vect3-b_vect in
-    sym (first_refused (hit z) (edge z) (rest z) 6 [] (tested_refused (hit z (edge z)) _ _ (ap tested_answer (sym c.in_default-test_finite.is) ∙ told y))) ∙ left z ∙ whole x
+    sym (first_refused (hit z) (edge z) (rest z) 6 [] (tested_refused (hit z (edge z)) _ _ (ap answer_of (sym c.in_default-test_finite.is) ∙ told y))) ∙ left z ∙ whole x
 
-pub returns-in-At : goal.returns-in-At
-returns-in-At c =
-    let y = (goal.at.returns-in-At c).After-test_finite in
-    let z = (goal.at.returns-in-At c).After-are_overlapping_in_lon in
-    let x = (goal.at.returns-in-At c).After-to_vect3-b_vect in
-    let e = sym (told y) ∙ ap tested_answer c.in-Crossing.is ∙ ap answered c.in-At.is in
+pub returns-in-Some : goal.returns-in-Some
+returns-in-Some c =
+    let y = (goal.at.returns-in-Some c).After-test_finite in
+    let z = (goal.at.returns-in-Some c).After-are_overlapping_in_lon in
+    let x = (goal.at.returns-in-Some c).After-to_vect3-b_vect in
+    let e = sym (told y) ∙ ap answer_of c.in-Ok-test_finite.is ∙ ap answered c.in-Some.is in
     sym (first_found (hit z) (edge z) (rest z) _ e) ∙ left z ∙ whole x
 
 pub loop-i-preserved : goal.loop-i-preserved
@@ -136,7 +136,7 @@ loop-i-preserved c =
     let z = (goal.at.loop-i-preserved c).After-are_overlapping_in_lon in
     let on = stands_next z.loop-i.invariant.0 z.loop-i-test.true in
     elim c.if-are_overlapping_in_lon.branch [
-      | goal.then-are_overlapping_in_lon+then-ua-ub+in-Crossing+in-None w ↦ (on, passed z (sym (ap tested_of (crossed (numbers z) w.dot_product-ua.ensures w.dot_product-ub.ensures w.if-are_overlapping_in_lon.true w.if-ua-ub.true w.point_in_edge.ensures)) ∙ sym w.test_finite.ensures ∙ ap tested_answer w.in-Crossing.is ∙ ap answered w.in-None.is))
+      | goal.then-are_overlapping_in_lon+then-ua-ub+in-Ok-test_finite+in-None w ↦ (on, passed z (sym (ap tested_of (crossed (numbers z) w.dot_product-ua.ensures w.dot_product-ub.ensures w.if-are_overlapping_in_lon.true w.if-ua-ub.true w.point_in_edge.ensures)) ∙ sym w.test_finite.ensures ∙ ap answer_of w.in-Ok-test_finite.is ∙ ap answered w.in-None.is))
       | goal.then-are_overlapping_in_lon+else-ua-ub w ↦ (on, passed z (sym (ap tested_of (one_side (numbers z) w.dot_product-ua.ensures w.dot_product-ub.ensures w.if-are_overlapping_in_lon.true w.if-ua-ub.false))))
       | goal.else-are_overlapping_in_lon w ↦ (on, passed z (sym (ap tested_of (apart (numbers z) w.if-are_overlapping_in_lon.false))))
     ]

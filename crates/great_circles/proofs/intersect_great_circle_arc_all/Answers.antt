@@ -4,12 +4,14 @@ use native.Mathlib.Omega.{arith}
 use mathlib.Core.Path.{◌≡◌, refl, sym, ap, ◌∙◌, subst}
 use mathlib.Core.List.{List}
 use lib.ListN.{length}
-use Rattle.crossings.specs.declared.Crossing.{Crossing}
-use Rattle.crossings.specs.declared.Crossing.TheVariants.{None}
-use Rattle.crossings.specs.declared.Tested.{Tested}
-use Rattle.crossings.specs.declared.Tested.TheVariants as tested
-use Rattle.crossings.specs.Crossings.{crossings_of, tested_answer, tested_of, all_of, Lists}
-use Rattle.domain.specs.Checks.{point_answer}
+use Rattle.std.specs.declared.result.Result.{Result}
+use Rattle.std.specs.declared.result.Result.TheVariants.{Ok}
+use Rattle.std.specs.declared.option.Option.{Option}
+use Rattle.std.specs.declared.option.Option.TheVariants.{None}
+use Rattle.refusal.specs.Answer.{answer_of}
+use Rattle.refusal.specs.declared.Cause.{Cause}
+use Rattle.coo3d.specs.declared.UnitVect3.{UnitVect3}
+use Rattle.crossings.specs.Crossings.{crossings_of, tested_of, all_of, Lists}
 use Rattle.domain.proofs.Counts.{count_none, count_many}
 use Rattle.region.specs.declared.Region.{Region}
 use Rattle.region.specs.Edges.{Edge}
@@ -37,16 +39,16 @@ whole x =
     ∙ ap all_of (by_longitude (view_of r) _ _ _ _ x.west_of-west.ensures x.east_of-east.ensures)
     ∙ sym
     (both_inside r.count x.args.a x.args.b (λ p q. all_of (arc_crossings (view_of r) p q)) x.if-count-eq0.false x.if-count-gt64.false _
-    (ap point_answer (sym x.in-Point.is) ∙ x.check_point.ensures)
+    (ap answer_of (sym x.in-Ok.is) ∙ x.check_point.ensures)
     _
-    (ap point_answer (sym x.in-Point-check_point.is) ∙ x.check_point-2.ensures))
+    (ap answer_of (sym x.in-Ok-check_point.is) ∙ x.check_point-2.ensures))
 
 -- the edge of a turn
 module _ (z : After-are_overlapping_in_lon) where
   abbrev region : Region
   region = z.args.r
 
-  abbrev hit : Edge → Crossing
+  abbrev hit : Edge → Option UnitVect3
   hit = arc_crossing z.west_of-west.result z.east_of-east.result
 
   abbrev edge : Edge
@@ -58,16 +60,16 @@ module _ (z : After-are_overlapping_in_lon) where
   in_array : z.loop-i.len < 64
   in_array = omega (arith, in_count, z.loop-i.invariant.1.few)
 
-  abbrev Told : Tested → Type 0
+  abbrev Told : Result (Option UnitVect3) Cause → Type 0
   Told t =
       Turn hit (left_by region.vertices region.cross_products region.count z.loop-i.before z.loop-i.i)
       (left_by region.vertices region.cross_products region.count z.loop-i.i (z.loop-i.i + 1))
       t
 
-  here : {t : Tested} {c : Crossing} → c ≡ hit edge → tested_answer t ≡ tested_of c → Told t
+  here : {t : Result (Option UnitVect3) Cause} {c : Option UnitVect3} → c ≡ hit edge → answer_of t ≡ tested_of c → Told t
   here e t = turned (next_edge z.loop-i.invariant.0 z.loop-i-test.true) e t
 
-  no_crossing : None ≡ hit edge → Told (tested.Crossing None)
+  no_crossing : None ≡ hit edge → Told (Ok None)
   no_crossing e = here e refl
 
   numbers : Numbers z.west_of-west.result z.east_of-east.result edge z.are_overlapping_in_lon.result z.to_vect3-a_vect.result z.to_vect3-b_vect.result
@@ -94,11 +96,11 @@ returns-then-count-gt64 c = subst (Lists _) (sym (count_many _ _ c.if-count-eq0.
 
 pub returns-in_default : goal.returns-in_default
 unfolding arc_all_of
-returns-in_default c = subst (Lists _) (sym (first_outside _ _ _ _ c.if-count-eq0.false c.if-count-gt64.false _ _ (ap point_answer (sym c.in_default.is) ∙ c.check_point.ensures))) c.refused-in_default.ensures
+returns-in_default c = subst (Lists _) (sym (first_outside _ _ _ _ c.if-count-eq0.false c.if-count-gt64.false _ _ (ap answer_of (sym c.in_default.is) ∙ c.check_point.ensures))) c.refused-in_default.ensures
 
 pub returns-in_default-check_point : goal.returns-in_default-check_point
 unfolding arc_all_of
-returns-in_default-check_point c = subst (Lists _) (sym (second_outside _ _ _ _ c.if-count-eq0.false c.if-count-gt64.false _ (ap point_answer (sym c.in-Point.is) ∙ c.check_point.ensures) _ _ (ap point_answer (sym c.in_default-check_point.is) ∙ c.check_point-2.ensures))) c.refused-in_default-check_point.ensures
+returns-in_default-check_point c = subst (Lists _) (sym (second_outside _ _ _ _ c.if-count-eq0.false c.if-count-gt64.false _ (ap answer_of (sym c.in-Ok.is) ∙ c.check_point.ensures) _ _ (ap answer_of (sym c.in_default-check_point.is) ∙ c.check_point-2.ensures))) c.refused-in_default-check_point.ensures
 
 pub overflow_sub-before : goal.overflow_sub-before
 overflow_sub-before c = omega (arith, c.if-count-eq0.false)
@@ -142,10 +144,10 @@ loop-i-preserved c =
     let g = c.loop-i.invariant.1 in
     let next = stands_next c.loop-i.invariant.0 c.loop-i-test.true in
     elim c.if-are_overlapping_in_lon.branch [
-      | goal.then-are_overlapping_in_lon+then-ua-ub+in-Crossing+in-At w ↦
-          (next, gathered_at (here z (crossed (numbers z) w.dot_product-ua.ensures w.dot_product-ub.ensures w.if-are_overlapping_in_lon.true w.if-ua-ub.true w.point_in_edge.ensures) w.test_finite.ensures) g _ (w.in-Crossing.is ∙ ap tested.Crossing w.in-At.is) w.points-is w.len-is)
-      | goal.then-are_overlapping_in_lon+then-ua-ub+in-Crossing+in-None w ↦
-          (next, gathered_none (here z (crossed (numbers z) w.dot_product-ua.ensures w.dot_product-ub.ensures w.if-are_overlapping_in_lon.true w.if-ua-ub.true w.point_in_edge.ensures) w.test_finite.ensures) g (w.in-Crossing.is ∙ ap tested.Crossing w.in-None.is) w.points-is w.len-is)
+      | goal.then-are_overlapping_in_lon+then-ua-ub+in-Ok-test_finite+in-Some w ↦
+          (next, gathered_at (here z (crossed (numbers z) w.dot_product-ua.ensures w.dot_product-ub.ensures w.if-are_overlapping_in_lon.true w.if-ua-ub.true w.point_in_edge.ensures) w.test_finite.ensures) g _ (w.in-Ok-test_finite.is ∙ ap Ok w.in-Some.is) w.points-is w.len-is)
+      | goal.then-are_overlapping_in_lon+then-ua-ub+in-Ok-test_finite+in-None w ↦
+          (next, gathered_none (here z (crossed (numbers z) w.dot_product-ua.ensures w.dot_product-ub.ensures w.if-are_overlapping_in_lon.true w.if-ua-ub.true w.point_in_edge.ensures) w.test_finite.ensures) g (w.in-Ok-test_finite.is ∙ ap Ok w.in-None.is) w.points-is w.len-is)
       | goal.then-are_overlapping_in_lon+else-ua-ub w ↦
           (next, gathered_none (no_crossing z (one_side (numbers z) w.dot_product-ua.ensures w.dot_product-ub.ensures w.if-are_overlapping_in_lon.true w.if-ua-ub.false)) g refl w.points-is w.len-is)
       | goal.else-are_overlapping_in_lon w ↦ (next, gathered_none (no_crossing z (apart (numbers z) w.if-are_overlapping_in_lon.false)) g refl w.points-is w.len-is)

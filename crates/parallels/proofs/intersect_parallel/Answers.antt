@@ -6,11 +6,12 @@ use mathlib.Core.Path.{◌≡◌, refl, sym, ap, ◌∙◌}
 use mathlib.Core.Bool.{false, not}
 use borrow.Author.Rules.{rules}
 use lib.ListN.{length, get_or}
-use Rattle.crossings.specs.declared.Crossing.{Crossing}
-use Rattle.crossings.specs.declared.Tested.TheVariants as tested
-use Rattle.crossings.specs.Crossings.{tested_answer, listed, first_of}
+use Rattle.std.specs.declared.result.Result.TheVariants.{Ok}
+use Rattle.std.specs.declared.option.Option.{Option}
+use Rattle.coo3d.specs.declared.UnitVect3.{UnitVect3}
+use Rattle.crossings.specs.Crossings.{listed, first_of}
 use Rattle.domain.proofs.Counts.{count_none, count_many}
-use Rattle.refusal.specs.Answer.{answered}
+use Rattle.refusal.specs.Answer.{answered, answer_of}
 use Rattle.region.specs.View.{view_of, edges_of, nowhere}
 use Rattle.region.proofs.Edges.{edges_left, start}
 use Rattle.region.proofs.Lengths.{unmap}
@@ -73,19 +74,19 @@ fit c =
 pub returns-in_default : goal.returns-in_default
 returns-in_default c =
     let p = (goal.at.returns-in_default c).After-point_of in
-    only_refused p.point_of.result _ _ (ap tested_answer (sym c.in_default.is) ∙ c.test_finite.ensures) ∙ fit p
+    only_refused p.point_of.result _ _ (ap answer_of (sym c.in_default.is) ∙ c.test_finite.ensures) ∙ fit p
 
 -- a crossing that is passed on is the answer
-met : (c : After-test_finite) (d : Crossing)
+met : (c : After-test_finite) (d : Option UnitVect3)
     → let s = c.before.before.before.before.before.before.before.before.before.before.before.before.before.before.before.before in
-    c.test_finite.result ≡ tested.Crossing d → answered (listed d) ≡ parallel_first_of (view_of s.args.r) s.args.lat s.args.lat_sin s.args.lat_cos
-met c d e = only_passed c.point_of.result d (ap tested_answer (sym e) ∙ c.test_finite.ensures) ∙ fit c.before
+    c.test_finite.result ≡ Ok d → answered (listed d) ≡ parallel_first_of (view_of s.args.r) s.args.lat s.args.lat_sin s.args.lat_cos
+met c d e = only_passed c.point_of.result d (ap answer_of (sym e) ∙ c.test_finite.ensures) ∙ fit c.before
 
 pub returns-in_default-c : goal.returns-in_default-c
-returns-in_default-c c = ap (λ (d : Crossing). answered (listed d)) (sym c.in_default-c.is) ∙ met (goal.at.returns-in_default-c c).After-test_finite _ c.in-Crossing.is
+returns-in_default-c c = ap (λ (d : Option UnitVect3). answered (listed d)) (sym c.in_default-c.is) ∙ met (goal.at.returns-in_default-c c).After-test_finite _ c.in-Ok.is
 
 pub returns-then-spans_lat : goal.returns-then-spans_lat
-returns-then-spans_lat c = ap (λ (d : Crossing). answered (listed d)) (sym c.in-At.is) ∙ met (goal.at.returns-then-spans_lat c).After-test_finite _ c.in-Crossing.is
+returns-then-spans_lat c = ap (λ (d : Option UnitVect3). answered (listed d)) (sym c.in-Some.is) ∙ met (goal.at.returns-then-spans_lat c).After-test_finite _ c.in-Ok.is
 
 -- an edge that does not fit is passed
 pass : (c : At-loop-i)

@@ -8,10 +8,13 @@ use mathlib.Core.List.{List}
 use mathlib.Core.Bool.{not}
 use borrow.Author.Rules.{rules}
 use lib.ListN.{length, get_or}
-use Rattle.crossings.specs.declared.Crossing.{Crossing}
-use Rattle.crossings.specs.declared.Tested.{Tested}
-use Rattle.crossings.specs.declared.Tested.TheVariants as tested
-use Rattle.crossings.specs.Crossings.{crossings_of, tested_answer, tested_of, all_of, Lists}
+use Rattle.std.specs.declared.result.Result.{Result}
+use Rattle.std.specs.declared.result.Result.TheVariants.{Ok}
+use Rattle.std.specs.declared.option.Option.{Option}
+use Rattle.refusal.specs.Answer.{answer_of}
+use Rattle.refusal.specs.declared.Cause.{Cause}
+use Rattle.coo3d.specs.declared.UnitVect3.{UnitVect3}
+use Rattle.crossings.specs.Crossings.{crossings_of, tested_of, all_of, Lists}
 use Rattle.crossings.proofs.Gather.{Turn, turned, gathered_start, gathered_none, gathered_at, gathered_refused, gathered_done}
 use Rattle.domain.proofs.Counts.{count_none, count_many}
 use Rattle.region.specs.Edges.{Edge}
@@ -50,7 +53,7 @@ module _ (c : At-loop-i) where
   abbrev entry : Start
   entry = c.before.before.before.before.before.before.before.before
 
-  abbrev hit : Edge → Crossing
+  abbrev hit : Edge → Option UnitVect3
   hit = parallel_crossing entry.args.lat entry.args.lat_sin entry.args.lat_cos
 
   -- the answer, once the tests are passed
@@ -65,7 +68,7 @@ module _ (c : At-loop-i) where
     abbrev edge : Edge
     edge = record { from = get_or entry.args.r.vertices c.loop-i.before nowhere; to = get_or entry.args.r.vertices c.loop-i.i nowhere; normal = get_or entry.args.r.cross_products c.loop-i.i nothing }
 
-    here : {crossing : Crossing} {t : Tested} → crossing ≡ hit edge → tested_answer t ≡ tested_of crossing
+    here : {crossing : Option UnitVect3} {t : Result (Option UnitVect3) Cause} → crossing ≡ hit edge → answer_of t ≡ tested_of crossing
         → Turn hit (edges_left (held_of entry.args.r) edge.from c.loop-i.i) (edges_left (held_of entry.args.r) edge.to (c.loop-i.i + 1)) t
     here crossed told = turned (turn (held_of entry.args.r) _ _ (long entry (search rules)) (long' entry (search rules)) below) crossed told
 
@@ -84,10 +87,10 @@ loop-i-preserved c =
     let x = (goal.at.loop-i-preserved c).At-loop-i in
     let g = x.loop-i.invariant.3 in
     elim c.if-from_below-to_below.branch [
-      | goal.then-from_below-to_below+in-Crossing+in-At w ↦
-          (search rules, search rules, w.from_below-is, gathered_at (here x (search rules) w.parallel_crossing.ensures w.test_finite.ensures) g _ (w.in-Crossing.is ∙ ap tested.Crossing w.in-At.is) w.points-is w.len-is)
-      | goal.then-from_below-to_below+in-Crossing+in-None w ↦
-          (search rules, search rules, w.from_below-is, gathered_none (here x (search rules) w.parallel_crossing.ensures w.test_finite.ensures) g (w.in-Crossing.is ∙ ap tested.Crossing w.in-None.is) w.points-is w.len-is)
+      | goal.then-from_below-to_below+in-Ok+in-Some w ↦
+          (search rules, search rules, w.from_below-is, gathered_at (here x (search rules) w.parallel_crossing.ensures w.test_finite.ensures) g _ (w.in-Ok.is ∙ ap Ok w.in-Some.is) w.points-is w.len-is)
+      | goal.then-from_below-to_below+in-Ok+in-None w ↦
+          (search rules, search rules, w.from_below-is, gathered_none (here x (search rules) w.parallel_crossing.ensures w.test_finite.ensures) g (w.in-Ok.is ∙ ap Ok w.in-None.is) w.points-is w.len-is)
       | goal.else-from_below-to_below w ↦
           let same = alike _ _ w.if-from_below-to_below.false in
           (search rules, search rules, w.from_below-is ∙ same, gathered_none (here x (search rules) (not_crossed _ _ _ _ (one_side _ _ _ (sym x.loop-i.invariant.2 ∙ same))) refl) g refl w.points-is w.len-is)

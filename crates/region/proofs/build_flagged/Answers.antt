@@ -1,9 +1,8 @@
 -- `region::build_flagged` meets its contract. Assumes nothing.
 use native.Mathlib.Omega.{arith}
-use mathlib.Core.Path.{◌≡◌, refl, sym, ap, ◌∙◌}
+use mathlib.Core.Path.{◌≡◌, refl, sym}
 use lib.ListN.{length}
 use borrow.Author.Rules.{rules}
-use Rattle.domain.specs.Checks.{point_answer}
 use Rattle.region.proofs.Building.{checking_starts, checking_good, checking_bad, working_starts, working_turn, seams_first, seams_next, not_built, no_points, many_points, ends}
 use Rattle.region.proofs.Seam.{counting_room}
 use Rattle.region.proofs.build_flagged.Goals as goal
@@ -17,17 +16,16 @@ returns-then-count-gt64 c = not_built _ _ _ _ _ _ c.refused-then-count-gt64.ensu
 pub loop-i-init : goal.loop-i-init
 loop-i-init c = let e : length c.args.points ≡ 64 = search rules in checking_starts _ _ _ _ refl e refl refl refl
 
-pub returns-in_default : goal.returns-in_default
-returns-in_default c =
+pub returns-in-Err : goal.returns-in-Err
+returns-in-Err c =
     let l = c.loop-i in
-    let told = ap point_answer (sym c.in_default.is) ∙ c.check_point.ensures in
     let e : length c.args.points ≡ 64 = search rules in
-    not_built _ _ _ _ _ _ c.refused-in_default.ensures (checking_bad l.invariant e c.if-count-eq0.false c.if-count-gt64.false c.loop-i-test.true _ _ told)
+    not_built _ _ _ _ _ _ c.refused-in-Err.ensures (checking_bad l.invariant e c.if-count-eq0.false c.if-count-gt64.false c.loop-i-test.true _ _ c.in-Err.ensures)
 
 pub loop-i-preserved : goal.loop-i-preserved
 loop-i-preserved c =
     let l = c.loop-i in
-    let good = sym c.check_point.ensures ∙ ap point_answer c.in-Point.is in
+    let good = sym c.in-Ok.ensures in
     let e : length c.args.points ≡ 64 = search rules in
     checking_good l.invariant e c.if-count-gt64.false c.loop-i-test.true _ good
 

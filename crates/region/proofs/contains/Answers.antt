@@ -6,10 +6,10 @@ use mathlib.Core.List.{List, [], ◌∷◌}
 use lib.ListN.{length}
 use borrow.Author.Rules.{rules}
 use Rattle.coo3d.specs.declared.Coo3D.{Coo3D}
-use Rattle.domain.specs.Checks.{point_answer, point_at}
+use Rattle.domain.specs.Checks.{point_at}
 use Rattle.domain.proofs.Counts.{count_none, count_many}
 use Rattle.lists.specs.Counts.{exactly_one}
-use Rattle.refusal.specs.Answer.{answered, refused}
+use Rattle.refusal.specs.Answer.{answered, refused, answer_of}
 use Rattle.region.specs.Edges.{is_counted}
 use Rattle.region.specs.View.{View, contained}
 use Rattle.region.specs.Region.{contains_of}
@@ -37,7 +37,7 @@ unfolding contains_of
 returns-then-count-gt64 c = sym (count_many _ _ c.if-count-eq0.false c.if-count-gt64.true)
 
 pub returns-in_default : goal.returns-in_default
-returns-in_default c = outside _ _ c.if-count-eq0.false c.if-count-gt64.false _ _ (ap point_answer (sym c.in_default.is) ∙ c.check_point.ensures)
+returns-in_default c = outside _ _ c.if-count-eq0.false c.if-count-gt64.false _ _ (ap answer_of (sym c.in_default.is) ∙ c.check_point.ensures)
 
 pub loop-i-init : goal.loop-i-init
 loop-i-init c =
@@ -50,7 +50,7 @@ loop-i-preserved c =
     let r = c.args.r in
     let e : length r.vertices ≡ 64 = search unmap in
     let d : length r.cross_products ≡ 64 = search unmap in
-    let p = c.in-Point.p in
+    let p = c.in-Ok.p in
     let l = c.loop-i in
     let few = c.if-count-gt64.false in
     (search rules, passed p r r.contains_south_pole _ l.from l.i (room _ _ e few) (room _ _ d few) (search rules) (out_of_range p (edge_at r l.from l.i) r.contains_south_pole (sym c.is_in_lon_range.ensures ∙ c.if-is_in_lon_range.false)) ∙ l.invariant.1)
@@ -59,11 +59,10 @@ pub returns-then-i-count : goal.returns-then-i-count
 returns-then-i-count c =
     let r = c.args.r in
     let e : length r.vertices ≡ 64 = search unmap in
-    let p = c.in-Point.p in
+    let p = c.in-Ok.p in
     let l = c.loop-i in
     let few = c.if-count-gt64.false in
-    c.decide.ensures
-    ∙ inside _ _ c.if-count-eq0.false few _ _ (ap point_answer (sym c.in-Point.is) ∙ c.check_point.ensures)
+    inside _ _ c.if-count-eq0.false few _ _ (ap answer_of (sym c.in-Ok.is) ∙ c.check_point.ensures)
     (all_passed p r _ l.from l.i (room _ _ e few) (search rules) ∙ l.invariant.1)
 
 pub loop-i-2-init : goal.loop-i-2-init
@@ -74,7 +73,7 @@ loop-i-2-preserved c =
     let r = c.args.r in
     let e : length r.vertices ≡ 64 = search unmap in
     let d : length r.cross_products ≡ 64 = search unmap in
-    let p = c.in-Point.p in
+    let p = c.in-Ok.p in
     let m = c.loop-i-2 in
     let few = c.if-count-gt64.false in
     let w = held_of r in
@@ -92,10 +91,9 @@ unfolding edges_left
 returns c =
     let r = c.args.r in
     let e : length r.vertices ≡ 64 = search unmap in
-    let p = c.in-Point.p in
+    let p = c.in-Ok.p in
     let l = c.loop-i in
     let m = c.loop-i-2 in
     let few = c.if-count-gt64.false in
-    c.decide-2.ensures
-    ∙ inside _ _ c.if-count-eq0.false few _ _ (ap point_answer (sym c.in-Point.is) ∙ c.check_point.ensures)
+    inside _ _ c.if-count-eq0.false few _ _ (ap answer_of (sym c.in-Ok.is) ∙ c.check_point.ensures)
     (all_passed p r _ m.from m.i (room _ _ e few) (search rules) ∙ m.invariant.1 ∙ l.invariant.1)

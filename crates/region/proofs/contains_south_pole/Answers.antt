@@ -1,8 +1,8 @@
 -- `region::contains_south_pole` meets its contract. Assumes nothing.
 use mathlib.Core.Path.{sym, ap, ◌∙◌}
 use Rattle.domain.proofs.Counts.{count_none, count_many}
-use Rattle.refusal.specs.Answer.{answered}
-use Rattle.region.specs.Region.{flag_of, rule_answer}
+use Rattle.refusal.specs.Answer.{answered, answer_of}
+use Rattle.region.specs.Region.{flag_of}
 use Rattle.region.proofs.Rules.{no_zero, rule_again}
 use Rattle.region.proofs.Flags.{flag_checked, flag_refused}
 use Rattle.region.proofs.contains_south_pole.Goals as goal
@@ -17,13 +17,13 @@ returns-then-count-gt64 c = sym (count_many _ _ c.if-count-eq0.false c.if-count-
 
 pub flag_by_rule-requires : goal.flag_by_rule-requires
 flag_by_rule-requires c =
-    let told = ap rule_answer (sym c.in-Rule.is) ∙ c.check_rule.ensures in
+    let told = ap answer_of (sym c.in-Ok.is) ∙ c.check_rule.ensures in
     (no_zero c.if-count-eq0.false, c.if-count-gt64.false, rule_again _ _ _ (sym told) 0)
 
-pub returns-in-Refused : goal.returns-in-Refused
-returns-in-Refused c = flag_refused _ _ c.if-count-eq0.false c.if-count-gt64.false _ _ (ap rule_answer (sym c.in-Refused.is) ∙ c.check_rule.ensures)
+pub returns-in-Err : goal.returns-in-Err
+returns-in-Err c = flag_refused _ _ c.if-count-eq0.false c.if-count-gt64.false _ _ (ap answer_of (sym c.in-Err.is) ∙ c.check_rule.ensures)
 
-pub returns-in-Rule : goal.returns-in-Rule
-returns-in-Rule c =
-    let told = ap rule_answer (sym c.in-Rule.is) ∙ c.check_rule.ensures in
-    c.decide.ensures ∙ ap answered c.flag_by_rule.ensures ∙ flag_checked _ _ c.if-count-eq0.false c.if-count-gt64.false _ told
+pub returns-in-Ok : goal.returns-in-Ok
+returns-in-Ok c =
+    let told = ap answer_of (sym c.in-Ok.is) ∙ c.check_rule.ensures in
+    ap answered c.flag_by_rule.ensures ∙ flag_checked _ _ c.if-count-eq0.false c.if-count-gt64.false _ told

@@ -7,10 +7,10 @@ use mathlib.Core.List.{List}
 use mir.Val.{bool_byte}
 use lib.ListN.{length}
 use lib.Seq.{sets, sets-eq}
-use Rattle.refusal.specs.Answer.{answered, refused, verdict}
+use Rattle.refusal.specs.Answer.{answered, refused, verdict, answer_of}
 use Rattle.region_file.specs.declared.Trailer.{Trailer}
 use Rattle.region_file.specs.Bytes.{bytes_of}
-use Rattle.region_file.specs.File.{flag_bytes, trailer_of, trailer_answer, with_flag_field}
+use Rattle.region_file.specs.File.{flag_bytes, trailer_of, with_flag_field}
 use Rattle.region_file.proofs.Numbers.{length_bytes, flag_number}
 use Rattle.region_file.proofs.Trailers.{accepted}
 use Rattle.region_file.proofs.set_flag.Goals as goal
@@ -43,18 +43,18 @@ module _ (s : List ℕ) (k : ℕ) (vs : List ℕ) (told : refused k vs ≡ trail
 
 pub overflow_sub-len : goal.overflow_sub-len
 overflow_sub-len c =
-    let h = long _ _ (ap trailer_answer (sym c.in-Trailer.is) ∙ c.read_trailer.ensures) in omega (arith, h)
+    let h = long _ _ (ap answer_of (sym c.in-Ok.is) ∙ c.read_trailer.ensures) in omega (arith, h)
 
 pub put_number-requires : goal.put_number-requires
 put_number-requires c =
-    let h = long _ _ (ap trailer_answer (sym c.in-Trailer.is) ∙ c.read_trailer.ensures) in omega (arith, h)
+    let h = long _ _ (ap answer_of (sym c.in-Ok.is) ∙ c.read_trailer.ensures) in omega (arith, h)
 
-pub returns-in-Refused : goal.returns-in-Refused
-returns-in-Refused c =
-    let told = ap trailer_answer (sym c.in-Refused.is) ∙ c.read_trailer.ensures in
+pub returns-in-Err : goal.returns-in-Err
+returns-in-Err c =
+    let told = ap answer_of (sym c.in-Err.is) ∙ c.read_trailer.ensures in
     record { answer = set_refused _ _ _ told; file_after = field_left _ _ _ told _ }
 
-pub returns-in-Trailer : goal.returns-in-Trailer
-returns-in-Trailer c =
-    let told = ap trailer_answer (sym c.in-Trailer.is) ∙ c.read_trailer.ensures in
+pub returns-in-Ok : goal.returns-in-Ok
+returns-in-Ok c =
+    let told = ap answer_of (sym c.in-Ok.is) ∙ c.read_trailer.ensures in
     record { answer = set_done _ _ told; file_after = c.put_number.ensures ∙ field_set _ _ told _ }
