@@ -2,9 +2,9 @@
 #![tactic(auto)]
 
 use coo3d::{Coo3D, LonLat, UnitVect3, Vect3};
-use crossings::{AllAnswer, Crossings, FirstAnswer};
-use refusal::{Cause, Decision, Outcome};
-use region::{CountAnswer, Region};
+use crossings::{AllAnswer, Crossings};
+use refusal::Cause;
+use region::Region;
 use stream::{FromWords, Reader, Writer};
 use zone::Zone;
 
@@ -41,42 +41,11 @@ impl<'a> Session<'a> {
     }
 
     // The region that a call gave is kept where the call was done.
-    pub fn keep(&mut self, outcome: Outcome, region: Region) -> stream::Result<()> {
-        let done = done_of(outcome);
-        if done.is_ok() {
+    pub fn keep(&mut self, outcome: Result<(), Cause>, region: Region) -> stream::Result<()> {
+        if outcome.is_ok() {
             self.region = region;
         }
-        self.put(done)
-    }
-}
-
-pub fn done_of(outcome: Outcome) -> Result<(), Cause> {
-    match outcome {
-        Outcome::Done => Ok(()),
-        Outcome::Refused(cause) => Err(cause),
-    }
-}
-
-pub fn decision_of(decision: Decision) -> Result<bool, Cause> {
-    match decision {
-        Decision::Yes => Ok(true),
-        Decision::No => Ok(false),
-        Decision::Refused(cause) => Err(cause),
-    }
-}
-
-pub fn count_of(answer: CountAnswer) -> Result<usize, Cause> {
-    match answer {
-        CountAnswer::Count(count) => Ok(count),
-        CountAnswer::Refused(cause) => Err(cause),
-    }
-}
-
-pub fn first_of(answer: FirstAnswer) -> Result<Option<UnitVect3>, Cause> {
-    match answer {
-        FirstAnswer::At(p) => Ok(Some(p)),
-        FirstAnswer::None => Ok(None),
-        FirstAnswer::Refused(cause) => Err(cause),
+        self.put(outcome)
     }
 }
 
@@ -197,7 +166,7 @@ impl ToWords for Crossings {
 
 impl ToWords for AllAnswer {
     fn put_to(&self, words: &mut Writer<'_>) -> stream::Result<()> {
-        done_of(self.outcome).map(|()| self.crossings).put_to(words)
+        self.outcome.map(|()| self.crossings).put_to(words)
     }
 }
 

@@ -32,9 +32,7 @@ fn ask_parallel<A: ToWords + Drop, F: FnOnce(Region, f64, f64, f64) -> A>(
 }
 
 pub fn arc_first(session: &mut Session<'_>) -> Result<()> {
-    ask_arc(session, |r, a, b| {
-        answers::first_of(great_circles::intersect_great_circle_arc(r, a, b))
-    })
+    ask_arc(session, great_circles::intersect_great_circle_arc)
 }
 
 pub fn arc_all(session: &mut Session<'_>) -> Result<()> {
@@ -42,9 +40,7 @@ pub fn arc_all(session: &mut Session<'_>) -> Result<()> {
 }
 
 pub fn is_intersecting_arc(session: &mut Session<'_>) -> Result<()> {
-    ask_arc(session, |r, a, b| {
-        answers::decision_of(great_circles::is_intersecting_great_circle_arc(r, a, b))
-    })
+    ask_arc(session, great_circles::is_intersecting_great_circle_arc)
 }
 
 pub fn great_circle_all(session: &mut Session<'_>) -> Result<()> {
@@ -53,9 +49,7 @@ pub fn great_circle_all(session: &mut Session<'_>) -> Result<()> {
 }
 
 pub fn parallel_first(session: &mut Session<'_>) -> Result<()> {
-    ask_parallel(session, |r, lat, sine, cosine| {
-        answers::first_of(parallels::intersect_parallel(r, lat, sine, cosine))
-    })
+    ask_parallel(session, parallels::intersect_parallel)
 }
 
 pub fn parallel_all(session: &mut Session<'_>) -> Result<()> {
@@ -63,7 +57,5 @@ pub fn parallel_all(session: &mut Session<'_>) -> Result<()> {
 }
 
 pub fn is_intersecting_parallel(session: &mut Session<'_>) -> Result<()> {
-    ask_parallel(session, |r, lat, sine, cosine| {
-        answers::decision_of(parallels::is_intersecting_parallel(r, lat, sine, cosine))
-    })
+    ask_parallel(session, parallels::is_intersecting_parallel)
 }

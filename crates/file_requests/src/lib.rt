@@ -4,7 +4,6 @@
 
 use answers::Session;
 use coo3d::Coo3D;
-use region_file::WriteAnswer;
 use stream::Result;
 
 // An output's bytes are AA before the call; a file's are read over them.
@@ -16,10 +15,7 @@ pub fn write(session: &mut Session<'_>) -> Result<()> {
     let len = session.reader.get_length()?;
     let mut space = space();
     let lent = &mut space[..len];
-    let written = match region_file::write(session.region, lent) {
-        WriteAnswer::Written(len) => Ok(len),
-        WriteAnswer::Refused(cause) => Err(cause),
-    };
+    let written = region_file::write(session.region, lent);
     session.put(written)?;
     if written.is_ok() {
         session.writer.put_bytes(lent)?;

@@ -112,28 +112,28 @@ pub fn hand_in_seamed(session: &mut Session<'_>) -> Result<()> {
 }
 
 pub fn seam_count(session: &mut Session<'_>) -> Result<()> {
-    session.put(answers::count_of(region::seam_count(session.region)))
+    session.put(region::seam_count(session.region))
 }
 
 pub fn contains(session: &mut Session<'_>) -> Result<()> {
     let p = session.get()?;
-    session.put(answers::decision_of(region::contains(session.region, p)))
+    session.put(region::contains(session.region, p))
 }
 
 // The decision, and the number beside one that was not refused.
 pub fn contains_with_range_count(session: &mut Session<'_>) -> Result<()> {
     let p = session.get()?;
     let answer = cost::contains_with_range_count(session.region, p);
-    session.put(answers::decision_of(answer.decision).map(|yes| (yes, answer.in_range)))
+    session.put(answer.decision.map(|yes| (yes, answer.in_range)))
 }
 
 // The outline is kept, and its point answered.
 pub fn costliest_outline(session: &mut Session<'_>) -> Result<()> {
     let count = session.get()?;
     let answer = cost::costliest_outline(count);
-    let done = answers::done_of(answer.built.outcome);
-    if done.is_ok() {
+    let outcome = answer.built.outcome;
+    if outcome.is_ok() {
         session.region = answer.built.region;
     }
-    session.put(done.map(|()| answer.point))
+    session.put(outcome.map(|()| answer.point))
 }

@@ -185,7 +185,7 @@ fn round_the_south_pole(rt: &impl Print) -> io::Result<()> {
     poles(rt, r)?;
     sides(rt, r)?;
     let mut file: [u8; 496] = [0; 496];
-    region_file::write(r, &mut file);
+    let _ = region_file::write(r, &mut file);
     print!(rt; "  trailer   ")?;
     tell::bytes(rt, &file[480..496])?;
     Ok(())

@@ -2,23 +2,20 @@
 #![tactic(auto)]
 
 use answers::Session;
-use cone::ConeAnswer;
 use refusal::Cause;
 use stream::Result;
-use zone::{Zone, ZoneAnswer};
+use zone::Zone;
 
 pub fn new_zone(session: &mut Session<'_>) -> Result<()> {
     let lon_min = session.get()?;
     let lat_min = session.get()?;
     let lon_max = session.get()?;
     let lat_max = session.get()?;
-    match Zone::new(lon_min, lat_min, lon_max, lat_max) {
-        ZoneAnswer::Made(zone) => {
-            session.zone = Some(zone);
-            session.put(Ok(()))
-        }
-        ZoneAnswer::Refused(cause) => session.put(Err::<(), Cause>(cause)),
+    let made = Zone::new(lon_min, lat_min, lon_max, lat_max);
+    if let Ok(zone) = made {
+        session.zone = Some(zone);
     }
+    session.put(made.map(|_| ()))
 }
 
 // With no zone the answer is as to wrong bounds.
@@ -41,10 +38,8 @@ pub fn ask_zone(session: &mut Session<'_>) -> Result<()> {
 pub fn bounding_cone(session: &mut Session<'_>) -> Result<()> {
     let count = session.reader.get_length()?;
     let points = session.reader.get_points(count)?;
-    session.put(match cone::bounding_cone(points, count) {
-        ConeAnswer::Made(cone) => Ok((cone.center, cone.d2_max)),
-        ConeAnswer::Refused(cause) => Err(cause),
-    })
+    let cone = cone::bounding_cone(points, count);
+    session.put(cone.map(|cone| (cone.center, cone.d2_max)))
 }
 
 pub fn root(session: &mut Session<'_>) -> Result<()> {

@@ -2,17 +2,16 @@
 // digits of their bits.
 #![tactic(auto)]
 
-use cone::{Cone, ConeAnswer};
+use cone::Cone;
 use coo3d::{Coo3D, LonLat, UnitVect3, Vect3};
 use cost::RangedDecision;
-use crossings::{AllAnswer, Crossing, FirstAnswer, Tested};
-use domain::{PointCheck, VectorCheck};
+use crossings::AllAnswer;
 use edits::EditAnswer;
-use refusal::{Cause, Decision, Outcome};
-use region::{Built, ContainsSouthPoleMethod, CountAnswer, Region, RuleCheck};
-use region_file::{Trailer, TrailerAnswer, WriteAnswer};
+use refusal::Cause;
+use region::{Built, ContainsSouthPoleMethod, Region};
+use region_file::Trailer;
 use std::{fmt, io};
-use zone::{Zone, ZoneAnswer};
+use zone::Zone;
 
 // What an example prints of a value.
 pub trait Tell {
@@ -53,11 +52,17 @@ pub fn bytes(rt: &impl Print, bytes: &[u8]) -> io::Result<()> {
     println!(rt; "")
 }
 
+pub fn written(rt: &impl Print, answer: Result<usize, Cause>) -> io::Result<()> {
+    answer.map(Written).tell(rt)
+}
+
 // A file's length.
-pub fn written(rt: &impl Print, answer: WriteAnswer) -> io::Result<()> {
-    match answer {
-        WriteAnswer::Written(len) => println!(rt; "  written {len}"),
-        WriteAnswer::Refused(cause) => Err::<(), Cause>(cause).tell(rt),
+#[derive(Clone, Copy)]
+struct Written(usize);
+
+impl Tell for Written {
+    fn tell<R: Print>(&self, rt: &R) -> io::Result<()> {
+        println!(rt; "  written {}", self.0)
     }
 }
 
@@ -196,13 +201,13 @@ impl Tell for Region {
 
 impl Tell for Built {
     fn tell<R: Print>(&self, rt: &R) -> io::Result<()> {
-        done_of(self.outcome).map(|()| self.region).tell(rt)
+        self.outcome.map(|()| self.region).tell(rt)
     }
 }
 
 impl Tell for EditAnswer {
     fn tell<R: Print>(&self, rt: &R) -> io::Result<()> {
-        done_of(self.outcome).map(|()| self.region).tell(rt)
+        self.outcome.map(|()| self.region).tell(rt)
     }
 }
 
@@ -253,111 +258,5 @@ impl Tell for Trailer {
             flag: self.flag,
         };
         println!(rt; "  {outline}")
-    }
-}
-
-fn done_of(outcome: Outcome) -> Result<(), Cause> {
-    match outcome {
-        Outcome::Done => Ok(()),
-        Outcome::Refused(cause) => Err(cause),
-    }
-}
-
-impl Tell for Outcome {
-    fn tell<R: Print>(&self, rt: &R) -> io::Result<()> {
-        done_of(*self).tell(rt)
-    }
-}
-
-impl Tell for Decision {
-    fn tell<R: Print>(&self, rt: &R) -> io::Result<()> {
-        match *self {
-            Decision::Yes => true.tell(rt),
-            Decision::No => false.tell(rt),
-            Decision::Refused(cause) => Err::<(), Cause>(cause).tell(rt),
-        }
-    }
-}
-
-impl Tell for CountAnswer {
-    fn tell<R: Print>(&self, rt: &R) -> io::Result<()> {
-        match *self {
-            CountAnswer::Count(n) => n.tell(rt),
-            CountAnswer::Refused(cause) => Err::<(), Cause>(cause).tell(rt),
-        }
-    }
-}
-
-impl Tell for FirstAnswer {
-    fn tell<R: Print>(&self, rt: &R) -> io::Result<()> {
-        match *self {
-            FirstAnswer::At(p) => p.tell(rt),
-            FirstAnswer::None => None::<UnitVect3>.tell(rt),
-            FirstAnswer::Refused(cause) => Err::<(), Cause>(cause).tell(rt),
-        }
-    }
-}
-
-impl Tell for Tested {
-    fn tell<R: Print>(&self, rt: &R) -> io::Result<()> {
-        match *self {
-            Tested::Crossing(Crossing::At(p)) => p.tell(rt),
-            Tested::Crossing(Crossing::None) => None::<UnitVect3>.tell(rt),
-            Tested::Refused(cause) => Err::<(), Cause>(cause).tell(rt),
-        }
-    }
-}
-
-impl Tell for ZoneAnswer {
-    fn tell<R: Print>(&self, rt: &R) -> io::Result<()> {
-        match *self {
-            ZoneAnswer::Made(zone) => zone.tell(rt),
-            ZoneAnswer::Refused(cause) => Err::<(), Cause>(cause).tell(rt),
-        }
-    }
-}
-
-impl Tell for ConeAnswer {
-    fn tell<R: Print>(&self, rt: &R) -> io::Result<()> {
-        match *self {
-            ConeAnswer::Made(cone) => cone.tell(rt),
-            ConeAnswer::Refused(cause) => Err::<(), Cause>(cause).tell(rt),
-        }
-    }
-}
-
-impl Tell for TrailerAnswer {
-    fn tell<R: Print>(&self, rt: &R) -> io::Result<()> {
-        match *self {
-            TrailerAnswer::Trailer(trailer) => trailer.tell(rt),
-            TrailerAnswer::Refused(cause) => Err::<(), Cause>(cause).tell(rt),
-        }
-    }
-}
-
-impl Tell for PointCheck {
-    fn tell<R: Print>(&self, rt: &R) -> io::Result<()> {
-        match *self {
-            PointCheck::Point(p) => p.tell(rt),
-            PointCheck::Refused(cause) => Err::<(), Cause>(cause).tell(rt),
-        }
-    }
-}
-
-impl Tell for VectorCheck {
-    fn tell<R: Print>(&self, rt: &R) -> io::Result<()> {
-        match *self {
-            VectorCheck::Vector(v) => v.tell(rt),
-            VectorCheck::Refused(cause) => Err::<(), Cause>(cause).tell(rt),
-        }
-    }
-}
-
-impl Tell for RuleCheck {
-    fn tell<R: Print>(&self, rt: &R) -> io::Result<()> {
-        match *self {
-            RuleCheck::Rule(rule) => rule.tell(rt),
-            RuleCheck::Refused(cause) => Err::<(), Cause>(cause).tell(rt),
-        }
     }
 }
