@@ -53,14 +53,13 @@ pub fn bytes(rt: &impl Print, bytes: &[u8]) -> io::Result<()> {
 }
 
 pub fn written(rt: &impl Print, answer: Result<usize, Cause>) -> io::Result<()> {
-    answer.map(Written).tell(rt)
+    answer.map(FileLength).tell(rt)
 }
 
-// A file's length.
 #[derive(Clone, Copy)]
-struct Written(usize);
+struct FileLength(usize);
 
-impl Tell for Written {
+impl Tell for FileLength {
     fn tell<R: Print>(&self, rt: &R) -> io::Result<()> {
         println!(rt; "  written {}", self.0)
     }
