@@ -3,7 +3,7 @@
 
 use coo3d::{Coo3D, UnitVect3, Vect3};
 use refusal::Cause;
-use region::{ContainsSouthPoleMethod, Region};
+use region::{ContainsSouthPoleMethod, Edge, Region};
 use std::io;
 use tell::{at, corners_of};
 use zone::Zone;
@@ -178,6 +178,51 @@ fn region_is_counted(rt: &impl Print) -> io::Result<()> {
     let to = at(-1.0, 0.0, 0.0, 3.0, 0.0);
     let normal = region::edge_normal(from, to);
     tell::answer(rt, region::is_counted(p, from, to, normal))?;
+    Ok(())
+}
+
+fn region_edges(rt: &impl Print) -> io::Result<()> {
+    tell::call(rt, "Region::edges")?;
+    let s = square();
+    for edge in s.edges() {
+        tell::answer(rt, edge.to.to_vect3())?;
+    }
+    Ok(())
+}
+
+fn edge_new(rt: &impl Print) -> io::Result<()> {
+    tell::call(rt, "Edge::new")?;
+    let edge = Edge::new(at(0.0, 1.0, 0.0, 1.5, 0.0), at(1.0, 0.0, 0.0, 0.0, 0.0));
+    tell::answer(rt, edge.normal)?;
+    Ok(())
+}
+
+fn edge_crosses_seam(rt: &impl Print) -> io::Result<()> {
+    tell::call(rt, "Edge::crosses_seam")?;
+    let s = square();
+    for edge in s.edges() {
+        tell::answer(rt, edge.crosses_seam())?;
+    }
+    Ok(())
+}
+
+fn edge_is_in_range(rt: &impl Print) -> io::Result<()> {
+    tell::call(rt, "Edge::is_in_range")?;
+    let p = at(0.0, 0.5, 0.5, 1.5, 0.5);
+    let s = square();
+    for edge in s.edges() {
+        tell::answer(rt, edge.is_in_range(p))?;
+    }
+    Ok(())
+}
+
+fn edge_is_counted(rt: &impl Print) -> io::Result<()> {
+    tell::call(rt, "Edge::is_counted")?;
+    let south = at(0.0, 0.5, -0.5, 1.5, -0.5);
+    let s = square();
+    for edge in s.edges() {
+        tell::answer(rt, edge.is_counted(south))?;
+    }
     Ok(())
 }
 
@@ -695,6 +740,14 @@ fn domain_check_points(rt: &impl Print) -> io::Result<()> {
     Ok(())
 }
 
+fn domain_check_count(rt: &impl Print) -> io::Result<()> {
+    tell::call(rt, "domain::check_count")?;
+    tell::answer(rt, domain::check_count(64))?;
+    tell::answer(rt, domain::check_count(0))?;
+    tell::answer(rt, domain::check_count(65))?;
+    Ok(())
+}
+
 fn root_sqrt(rt: &impl Print) -> io::Result<()> {
     tell::call(rt, "root::sqrt")?;
     tell::answer(rt, root::sqrt(2.25))?;
@@ -959,6 +1012,11 @@ fn main(rt: HostRuntime) -> io::Result<()> {
     region_is_in_lon_range(&rt)?;
     region_crosses_seam(&rt)?;
     region_is_counted(&rt)?;
+    region_edges(&rt)?;
+    edge_new(&rt)?;
+    edge_crosses_seam(&rt)?;
+    edge_is_in_range(&rt)?;
+    edge_is_counted(&rt)?;
     cost_contains_with_range_count(&rt)?;
     cost_costliest_outline(&rt)?;
     edits_put(&rt)?;
@@ -1010,6 +1068,7 @@ fn main(rt: HostRuntime) -> io::Result<()> {
     domain_check_point(&rt)?;
     domain_check_vector(&rt)?;
     domain_check_points(&rt)?;
+    domain_check_count(&rt)?;
     root_sqrt(&rt)?;
     root_whole_root(&rt)?;
     float_abs(&rt)?;
