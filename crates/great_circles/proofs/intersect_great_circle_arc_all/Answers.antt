@@ -1,9 +1,8 @@
 -- `great_circles::intersect_great_circle_arc_all` meets its contract. Assumes nothing.
-use mathlib.Core.Path.{◌≡◌, subst, ◌∙◌}
-use Rattle.crossings.specs.Crossings.{first_of, all_of, crossings_of, Lists}
+use mathlib.Core.Path.{subst}
+use Rattle.crossings.specs.Crossings.{all_of, crossings_of, Lists}
 use Rattle.region.specs.View.{view_of, edges_of}
 use Rattle.great_circles.specs.Arcs.{arc_crossing}
-use Rattle.great_circles.specs.Circles.{circle_crossing}
 use Rattle.great_circles.specs.Queries.{arc_all_of}
 use Rattle.great_circles.proofs.Given.{given_arc}
 use Rattle.great_circles.proofs.intersect_great_circle_arc_all.Goals as goal

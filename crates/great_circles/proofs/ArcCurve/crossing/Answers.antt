@@ -1,5 +1,5 @@
 -- `great_circles::ArcCurve::crossing` meets its contract. Assumes nothing.
-use mathlib.Core.Path.{◌≡◌, sym, ◌∙◌}
+use mathlib.Core.Path.{◌∙◌}
 use Rattle.great_circles.proofs.Numbers.{apart, one_side, crossed}
 use Rattle.great_circles.proofs.ArcCurve.crossing.Goals as goal
 
