@@ -4,7 +4,10 @@ use Rattle.std.specs.Prelude.{Result, Ok, Err, ◌-◌, ◌≡◌, Bool, true, f
 use Rattle.coo3d.specs.declared.UnitVect3.{UnitVect3}
 use Rattle.coo3d.specs.Vectors.{is_finite_unit}
 use Rattle.float.specs.Doubles.{nought}
-use Rattle.refusal.specs.Answer.{Answer, answered, refused, refused_for, outcome_of, refuse_if, and_then}
+use Rattle.refusal.specs.Answer.{Answer, answered, refused, refused_for, answer_of, outcome_of, refuse_if, and_then}
+use Rattle.domain.specs.Checks.{with_count}
+use Rattle.region.specs.Edges.{Edge}
+use Rattle.region.specs.View.{View, edges_of}
 use Rattle.crossings.specs.declared.Crossings.{Crossings}
 use Rattle.crossings.specs.declared.AllAnswer.{AllAnswer}
 
@@ -49,6 +52,14 @@ is_point (p ∷ ps) = true
 
 abbrev pub intersecting_of : Answer (List UnitVect3) → Answer Bool
 intersecting_of first = and_then first (λ ps. answered (is_point ps))
+
+-- ---- the crossings of a region's edges with a curve, which may have been refused: the count is tested first
+
+abbrev pub first_crossing_of : {C : Type 0} → (C → Edge → Option UnitVect3) → View → Result C Cause → Answer (List UnitVect3)
+first_crossing_of hit v curve = with_count v.count (and_then (answer_of curve) (λ c. first_of (crossings_of (hit c) (edges_of v))))
+
+abbrev pub all_crossings_of : {C : Type 0} → (C → Edge → Option UnitVect3) → View → Result C Cause → Answer (List UnitVect3)
+all_crossings_of hit v curve = with_count v.count (and_then (answer_of curve) (λ c. all_of (crossings_of (hit c) (edges_of v))))
 
 -- ---- a list by value
 
