@@ -1,7 +1,7 @@
 // The bounding cone of some points. Upstream: src/sph_geom/cone.rs, `Cone::bounding_cone`.
 #![tactic(auto)]
 
-ghost use Rattle.std.specs.Prelude.{◌≡◌, ◌≤◌, take};
+ghost use Rattle.std.specs.Prelude.{◌≡◌};
 ghost use Rattle.refusal.specs.Answer.{answer_of};
 ghost use Rattle.cone.specs.Cone.{bounding_cone_of, gravity_center, center_of, d2_max_of};
 
@@ -16,22 +16,18 @@ pub struct Cone {
 }
 
 // The sum of the points, as vectors.
-fn gravity_center(points: [Coo3D; 64], count: usize) -> Vect3
-    requires { count ≤ 64 }
-    ensures { result ≡ gravity_center (take count points) }
+fn gravity_center(points: &[Coo3D]) -> Vect3
+    ensures { result ≡ gravity_center points.now }
 {
-    let mut x = 0.0;
-    let mut y = 0.0;
-    let mut z = 0.0;
-    let mut i: usize = 0;
-    while i < count {
-        let p = points[i];
-        x = x + p.x;
-        y = y + p.y;
-        z = z + p.z;
-        i += 1;
+    let mut sum = Vect3::zero();
+    for p in points {
+        sum = Vect3 {
+            x: sum.x + p.x,
+            y: sum.y + p.y,
+            z: sum.z + p.z,
+        };
     }
-    Vect3 { x, y, z }
+    sum
 }
 
 // The direction of a sum of points.
@@ -42,17 +38,13 @@ fn center_of(sum: Vect3) -> UnitVect3
     UnitVect3::new(sum.x / norm, sum.y / norm, sum.z / norm)
 }
 
-fn d2_max(center: UnitVect3, points: [Coo3D; 64], count: usize) -> f64
-    requires { count ≤ 64 }
-    ensures { result ≡ d2_max_of center (take count points) }
+fn d2_max(center: UnitVect3, points: &[Coo3D]) -> f64
+    ensures { result ≡ d2_max_of center points.now }
 {
     let c = center.to_vect3();
     let mut d2 = 0.0;
-    let mut i: usize = 0;
-    while i < count {
-        let p = points[i];
+    for p in points {
         d2 = float::max(d2, c.squared_euclidean_dist(p.to_vect3()));
-        i += 1;
     }
     d2
 }
@@ -62,20 +54,14 @@ pub fn bounding_cone(points: [Coo3D; 64], count: usize) -> Result<Cone, Cause>
     ensures { answer_of result ≡ bounding_cone_of points count }
 {
     let checked = domain::check_points(points, count);
-    let outcome = checked.outcome;
-    match outcome {
-        Err(cause) => Err(cause),
-        Ok(()) => {
-            let ps = checked.points;
-            let center = center_of(gravity_center(ps, count));
-            if center.is_finite() {
-                Ok(Cone {
-                    center,
-                    d2_max: d2_max(center, ps, count),
-                })
-            } else {
-                Err(Cause::NotFinite)
-            }
-        }
+    checked.outcome?;
+    let ps = &checked.points[..count];
+    let center = center_of(gravity_center(ps));
+    if !center.is_finite() {
+        return Err(Cause::NotFinite);
     }
+    Ok(Cone {
+        center,
+        d2_max: d2_max(center, ps),
+    })
 }

@@ -136,23 +136,12 @@ impl Zone {
     pub fn vertices(self) -> [LonLat; 4]
         ensures { result ≡ vertices_of self }
     {
+        let corner = |lon, lat| LonLat { lon, lat };
         [
-            LonLat {
-                lon: self.lon_min,
-                lat: self.lat_min,
-            },
-            LonLat {
-                lon: self.lon_min,
-                lat: self.lat_max,
-            },
-            LonLat {
-                lon: self.lon_max,
-                lat: self.lat_max,
-            },
-            LonLat {
-                lon: self.lon_max,
-                lat: self.lat_min,
-            },
+            corner(self.lon_min, self.lat_min),
+            corner(self.lon_min, self.lat_max),
+            corner(self.lon_max, self.lat_max),
+            corner(self.lon_max, self.lat_min),
         ]
     }
 }

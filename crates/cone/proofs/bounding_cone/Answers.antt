@@ -5,8 +5,9 @@ use mathlib.Core.Bool.{Bool, true, false}
 use mathlib.Core.List.{List, []}
 use lib.Ieee.{Float}
 use lib.ListN.{take}
-use Rattle.std.specs.declared.result.Result.{Result}
-use Rattle.std.specs.Prelude.{⊤}
+use Rattle.std.specs.Prelude.{⊤, Result, Err}
+use Rattle.std.specs.Result.{IsErrAnd}
+use Rattle.std.proofs.lemmas.Result.{err_from_is_err_and}
 use Rattle.refusal.specs.declared.Cause.{Cause}
 use Rattle.coo3d.specs.declared.Coo3D.{Coo3D}
 use Rattle.coo3d.specs.declared.Vect3.{Vect3}
@@ -14,14 +15,19 @@ use Rattle.coo3d.specs.declared.UnitVect3.{UnitVect3}
 use Rattle.coo3d.specs.Vectors.{is_finite_unit}
 use Rattle.domain.specs.Checks.{points_of}
 use Rattle.domain.proofs.Points.{points_count}
-use Rattle.refusal.specs.Answer.{answered, refused, outcome_of}
+use Rattle.refusal.specs.Answer.{answered, refused, outcome_of, answer_of}
+use Rattle.cone.specs.declared.Cone.{Cone}
 use Rattle.cone.specs.Cone.{bounding_cone_of, cone_at, center_of, gravity_center, d2_max_of}
 use Rattle.cone.proofs.bounding_cone.Goals as goal
-use Rattle.cone.proofs.bounding_cone.Goals.{After-ps-1}
+use Rattle.cone.proofs.bounding_cone.Goals.{In_ok-checked}
 
-passed_on : (l : List Coo3D) (n k : ℕ) (vs : List ℕ) → refused k vs ≡ points_of l n → refused k vs ≡ bounding_cone_of l n
+handed_on : (l : List Coo3D) (n : ℕ) (r : Result Cone Cause) (o : Result ⊤ Cause) (cause : Cause) (ps : List Coo3D) → IsErrAnd r (λ e. e ≡ cause) → o ≡ Err cause → outcome_of o ps ≡ points_of l n
+    → answer_of r ≡ bounding_cone_of l n
 unfolding bounding_cone_of
-passed_on l n k vs e = rw (sym e)
+handed_on l n r o cause ps h e k =
+    let p = err_from_is_err_and r h in
+    let w = ap (λ (x : Result ⊤ Cause). outcome_of x ps) (sym e) ∙ k in
+    rw (p.1, p.2, sym w)
 
 taken : (l : List Coo3D) (n : ℕ) (ps : List Coo3D) (s : Vect3) (u : UnitVect3) → answered ps ≡ points_of l n → s ≡ gravity_center ps → u ≡ center_of s → cone_at u ps ≡ bounding_cone_of l n
 unfolding bounding_cone_of
@@ -34,28 +40,21 @@ not_finite : (u : UnitVect3) (ps : List Coo3D) (b : Bool) → b ≡ is_finite_un
 not_finite u ps b e t = simp (sym e ∙ t)
 
 -- what the check answered, where it is done
-done : (c : After-ps-1) → answered (take c.args.count c.check_points-checked.result.points) ≡ points_of c.args.points c.args.count
-done c = ap (λ (o : Result ⊤ Cause). outcome_of o (take c.args.count c.check_points-checked.result.points)) (sym c.in-Ok.is) ∙ c.check_points-checked.ensures.answer
+done : (c : In_ok-checked) → answered (take c.args.count c.check_points-checked.result.points) ≡ points_of c.args.points c.args.count
+done c = ap (λ (o : Result ⊤ Cause). outcome_of o (take c.args.count c.check_points-checked.result.points)) (sym c.in_ok-checked.was) ∙ c.check_points-checked.ensures.answer
 
-pub gravity_center-requires : goal.gravity_center-requires
-gravity_center-requires c = (points_count _ _ _ (sym (done c))).1
+pub returns-in_err-checked : goal.returns-in_err-checked
+returns-in_err-checked c = handed_on _ _ _ _ _ _ c.from_residual.ensures.1 c.in_err-checked.was c.check_points-checked.ensures.answer
 
-pub d2_max-requires : goal.d2_max-requires
-d2_max-requires c = (points_count _ _ _ (sym (done (goal.at.d2_max-requires c).After-ps-1))).1
+pub shared_ref_as_front-ps : goal.shared_ref_as_front-ps
+shared_ref_as_front-ps c = (points_count _ _ _ (sym (done (goal.at.shared_ref_as_front-ps c).In_ok-checked))).1
 
-pub returns-in-Err : goal.returns-in-Err
-returns-in-Err c =
-    let a = c.args in
-    let r = c.check_points-checked in
-    passed_on a.points a.count _ _ (ap (λ (o : Result ⊤ Cause). outcome_of o (take a.count r.result.points)) (sym c.in-Err.is) ∙ r.ensures.answer)
+pub returns-then-not-is_finite : goal.returns-then-not-is_finite
+returns-then-not-is_finite c =
+    not_finite _ _ _ c.is_finite.ensures c.if-not-is_finite.true
+    ∙ taken _ _ _ _ _ (done (goal.at.returns-then-not-is_finite c).In_ok-checked) c.gravity_center.ensures c.center_of-center.ensures
 
-pub returns-then-is_finite : goal.returns-then-is_finite
-returns-then-is_finite c =
-    made _ _ _ _ c.is_finite.ensures c.if-is_finite.true c.d2_max.ensures
-    ∙ taken _ _ _ _ _ (done (goal.at.returns-then-is_finite c).After-ps-1) c.gravity_center.ensures c.center_of-center.ensures
-
-pub returns-else-is_finite : goal.returns-else-is_finite
-returns-else-is_finite c =
-    let ps = take c.args.count c.check_points-checked.result.points in
-    not_finite c.center_of-center.result ps _ c.is_finite.ensures c.if-is_finite.false
-    ∙ taken _ _ ps _ _ (done (goal.at.returns-else-is_finite c).After-ps-1) c.gravity_center.ensures c.center_of-center.ensures
+pub returns : goal.returns
+returns c =
+    made _ _ _ _ c.is_finite.ensures c.if-not-is_finite.false c.d2_max.ensures
+    ∙ taken _ _ _ _ _ (done (goal.at.returns c).In_ok-checked) c.gravity_center.ensures c.center_of-center.ensures

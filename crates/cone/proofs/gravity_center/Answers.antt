@@ -1,40 +1,26 @@
 -- `cone::gravity_center` meets its contract: the sum so far, and the points that are left. Assumes nothing.
-use Prim.Native.Nat.{ℕ, ◌+◌, ◌≤◌, ◌<◌}
+use Prim.Native.Nat.{ℕ, suc, ◌+◌, ◌≤◌, ◌<◌}
 use native.Mathlib.Omega.{arith}
-use mathlib.Core.Path.{◌≡◌, refl, sym, ◌∙◌}
+use mathlib.Core.Path.{◌≡◌, sym, ◌∙◌}
 use mathlib.Core.List.{List}
-use borrow.Author.Rules.{rules}
-use lib.ListN.{length, take, drop, get_or}
-use lib.Ieee.{Float}
+use lib.ListN.{length, drop, get_or, drop_of_length-le}
+use lib.Seq.{drop-cons}
 use Rattle.float.specs.Doubles.{◌⊕◌}
 use Rattle.coo3d.specs.declared.Coo3D.{Coo3D}
-use Rattle.lists.proofs.Passing.{next_left, none_left}
+use Rattle.coo3d.specs.declared.Vect3.{Vect3}
 use Rattle.cone.specs.Cone.{sum_from}
 use Rattle.cone.proofs.gravity_center.Goals as goal
-use Rattle.cone.proofs.gravity_center.Goals.{Start}
 
-long : (c : Start) → c.args.count ≤ length c.args.points
-long c = let e : length c.args.points ≡ 64 = search rules in omega arith
-
-step : (x y z : Float) (l : List Coo3D) (n i : ℕ) (d : Coo3D) → n ≤ length l → i < n → sum_from x y z (drop i (take n l)) ≡ sum_from (x ⊕ (get_or l i d).x) (y ⊕ (get_or l i d).y) (z ⊕ (get_or l i d).z) (drop (i + 1) (take n l))
+step : (s : Vect3) (l : List Coo3D) (i : ℕ) (d : Coo3D) → i < length l → sum_from (s.x ⊕ (get_or l i d).x) (s.y ⊕ (get_or l i d).y) (s.z ⊕ (get_or l i d).z) (drop (i + 1) l) ≡ sum_from s.x s.y s.z (drop i l)
 unfolding sum_from
-step x y z l n i d h k = rw (next_left l n i d h k)
+step s l i d h = let e : i + 1 ≡ suc i = omega arith in rw (e, drop-cons l i d h)
 
-end : (x y z : Float) (l : List Coo3D) (n i : ℕ) → n ≤ length l → n ≤ i → sum_from x y z (drop i (take n l)) ≡ record { x = x; y = y; z = z }
+end : (s : Vect3) (l : List Coo3D) (i : ℕ) → length l ≤ i → sum_from s.x s.y s.z (drop i l) ≡ s
 unfolding sum_from
-end x y z l n i h k = rw (none_left l n i h k)
+end s l i h = rw (drop_of_length-le l h)
 
-pub loop-i-init : goal.loop-i-init
-loop-i-init c = (search rules, refl)
-
-pub loop-i-preserved : goal.loop-i-preserved
-loop-i-preserved c =
-    let s = (goal.at.loop-i-preserved c).Start in
-    let l = c.loop-i in
-    (search rules, sym (step l.x l.y l.z s.args.points s.args.count l.i _ (long s) (search rules)) ∙ l.invariant.1)
+pub loop-p-preserved : goal.loop-p-preserved
+loop-p-preserved c = step c.loop-p.sum _ _ _ c.loop-p-test.true ∙ c.loop-p.invariant
 
 pub returns : goal.returns
-returns c =
-    let s = (goal.at.returns c).Start in
-    let l = c.loop-i in
-    sym (end l.x l.y l.z s.args.points s.args.count l.i (long s) (search rules)) ∙ l.invariant.1
+returns c = sym (end c.loop-p.sum _ _ c.loop-p-test.false) ∙ c.loop-p.invariant
