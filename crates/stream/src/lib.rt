@@ -35,7 +35,7 @@ pub trait FromWords {
 #[derive(Drop)]
 pub struct Reader<'a> {
     from: Stdin,
-    bytes: &'a mut [u8; 65536],
+    bytes: &'a mut [u8; BUFFER_LEN],
     // The bytes from `at` up to `end` are still to be read.
     at: usize,
     end: usize,
@@ -44,7 +44,7 @@ pub struct Reader<'a> {
 #[derive(Drop)]
 pub struct Writer<'a> {
     to: Stdout,
-    bytes: &'a mut [u8; 65536],
+    bytes: &'a mut [u8; BUFFER_LEN],
     // The first `len` bytes are still to be written.
     len: usize,
     ghost fits: { len ≤ 65536 },
@@ -63,7 +63,7 @@ fn read_full(mut from: Stdin, bytes: &mut [u8]) -> io::Result<usize> {
 }
 
 impl<'a> Reader<'a> {
-    pub fn new(from: Stdin, bytes: &'a mut [u8; 65536]) -> Reader<'a> {
+    pub fn new(from: Stdin, bytes: &'a mut [u8; BUFFER_LEN]) -> Reader<'a> {
         Reader {
             from,
             bytes,
@@ -177,7 +177,7 @@ impl FromWords for Coo3D {
 }
 
 impl<'a> Writer<'a> {
-    pub fn new(to: Stdout, bytes: &'a mut [u8; 65536]) -> Writer<'a> {
+    pub fn new(to: Stdout, bytes: &'a mut [u8; BUFFER_LEN]) -> Writer<'a> {
         Writer { to, bytes, len: 0 }
     }
 
