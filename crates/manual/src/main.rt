@@ -2,6 +2,7 @@
 #![tactic(auto)]
 
 use coo3d::{Coo3D, UnitVect3, Vect3};
+use crossings::Curve;
 use refusal::Cause;
 use region::{ContainsSouthPoleMethod, Edge, Region};
 use std::io;
@@ -843,6 +844,38 @@ fn crossings_is_intersecting(rt: &impl Print) -> io::Result<()> {
     Ok(())
 }
 
+// A curve that crosses each edge where it ends.
+#[derive(Clone, Copy)]
+struct Ends;
+
+impl Curve for Ends {
+    ghost crossing_of = { λ ends e. Some (record { x = e.to.x; y = e.to.y; z = e.to.z }) };
+
+    fn crossing(&self, _from: &Coo3D, to: &Coo3D, _normal: &Vect3) -> Option<UnitVect3> {
+        Some(UnitVect3 {
+            x: to.x,
+            y: to.y,
+            z: to.z,
+        })
+    }
+}
+
+fn crossings_first_crossing(rt: &impl Print) -> io::Result<()> {
+    tell::call(rt, "crossings::first_crossing")?;
+    let s = square();
+    tell::answer(rt, crossings::first_crossing(&s, Ok(Ends)))?;
+    Ok(())
+}
+
+fn crossings_all_crossings(rt: &impl Print) -> io::Result<()> {
+    tell::call(rt, "crossings::all_crossings")?;
+    let s = square();
+    tell::answer(rt, crossings::all_crossings(&s, Ok(Ends)))?;
+    let none: Result<Ends, Cause> = Err(Cause::NoSuchParallel);
+    tell::answer(rt, crossings::all_crossings(&s, none))?;
+    Ok(())
+}
+
 fn refusal_number(rt: &impl Print) -> io::Result<()> {
     tell::call(rt, "refusal::number")?;
     tell::answer(rt, refusal::number(Cause::ZoneBounds))?;
@@ -1082,6 +1115,8 @@ fn main(rt: HostRuntime) -> io::Result<()> {
     crossings_refused(&rt)?;
     crossings_test_finite(&rt)?;
     crossings_is_intersecting(&rt)?;
+    crossings_first_crossing(&rt)?;
+    crossings_all_crossings(&rt)?;
     refusal_number(&rt)?;
     refusal_decide(&rt)?;
     meridian_of_a_corner(&rt)?;
