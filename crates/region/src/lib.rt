@@ -1,7 +1,7 @@
 // Regions: polygons on the sphere with a pole flag, how they are built, and which points they contain. Upstream: `Polygon` in src/sph_geom/mod.rs.
 #![tactic(auto)]
 
-ghost use Rattle.std.specs.Prelude.{◌≡◌, false, ◌≤◌, ◌<◌, take};
+ghost use Rattle.std.specs.Prelude.{◌≡◌, false, ◌≤◌, ◌<◌, length};
 ghost use Rattle.std.specs.Iterator.{YieldsFirst, item_count};
 ghost use Rattle.refusal.specs.Answer.{answered, refused_for, answer_of};
 ghost use Rattle.domain.specs.Checks.{point_at};
@@ -52,7 +52,7 @@ pub enum ContainsSouthPoleMethod {
     ControlPointOut(Coo3D),
 }
 
-// Beside a refusal stands the empty region.
+// Beside a refusal stands the empty region. A `Result` that holds a region would be copied once more, and a refused build promises that region.
 #[derive(Clone, Copy)]
 pub struct Built {
     pub region: Region,
@@ -180,25 +180,24 @@ fn add_step(sum: f64, step: f64) -> f64
 }
 
 // Upstream's `Basic`: the outline goes round a pole, and its corners lie south on the whole.
-fn basic(vertices: [Coo3D; 64], count: usize) -> bool
-    requires { (0 < count) × (count ≤ 64) }
-    ensures { result ≡ basic_of (take count vertices) }
+fn basic(corners: &[Coo3D]) -> bool
+    requires { 0 < length corners.now }
+    ensures { result ≡ basic_of corners.now }
 {
-    let last = count - 1;
-    let mut from = vertices[last];
+    let mut from = corners[corners.len() - 1];
     let mut sum_delta_lon = 0.0;
     let mut gravity_center_z = 0.0;
-    for i in 0..count {
-        let to = vertices[i];
+    for to in corners {
         sum_delta_lon = add_step(sum_delta_lon, to.lon - from.lon);
         gravity_center_z = gravity_center_z + to.z;
-        from = to;
+        from = *to;
     }
     (float::abs(sum_delta_lon) > float::PI) & (gravity_center_z < 0.0)
 }
 
 // The edges are passed here and not in a helper, which would copy the region. The normals are copied once an edge is in range, and a point in no
 // edge's range needs none of them.
+// By `edges`, or in one loop, 4 corners take a fifth more instructions; by `Edge::is_counted`, 64 corners take a twentieth more.
 pub fn contains(r: Region, coo: Coo3D) -> Result<bool, Cause>
     ensures { answer_of result ≡ contains_of (view_of r) coo }
 {
@@ -273,11 +272,12 @@ fn flag_by_rule(r: Region, rule: ContainsSouthPoleMethod) -> bool
     requires { (0 < r.count) × (r.count ≤ 64) × (rule_at 0 rule ≡ answered rule) }
     ensures { result ≡ rule_flag rule (view_of r) }
 {
+    // A slice of the region's own array would copy the region.
     let vertices = r.vertices;
-    let count = r.count;
+    let corners = &vertices[..r.count];
     match rule {
-        ContainsSouthPoleMethod::Default => basic(vertices, count),
-        ContainsSouthPoleMethod::DefaultComplement => !basic(vertices, count),
+        ContainsSouthPoleMethod::Default => basic(corners),
+        ContainsSouthPoleMethod::DefaultComplement => !basic(corners),
         ContainsSouthPoleMethod::ContainsSouthPole => true,
         ContainsSouthPoleMethod::DoNotContainsSouthPole => false,
         ContainsSouthPoleMethod::ControlPointIn(p) => !odd_at(r, p),
