@@ -12,7 +12,7 @@ use Rattle.coo3d.specs.Vectors.{is_finite_unit}
 use Rattle.refusal.specs.declared.Cause.{Cause}
 use Rattle.refusal.specs.Answer.{Answer, answered, refused_for, refuse_if, and_then, answer_of}
 use Rattle.refusal.proofs.Answers.{never, same_answer}
-use Rattle.region.specs.Edges.{Edge}
+use Rattle.region.specs.declared.Edge.{Edge}
 use Rattle.crossings.specs.Crossings.{first_answer, listed, crossings_of, tested_of, all_finite, all_of, first_of}
 use Rattle.crossings.proofs.Turns.{Turn}
 

@@ -15,7 +15,7 @@ use Rattle.coo3d.specs.Vectors.{is_finite_unit}
 use Rattle.refusal.specs.declared.Cause.{Cause}
 use Rattle.refusal.specs.Answer.{Answer, answered, refused, refused_for, refuse_if, and_then, answer_of}
 use Rattle.refusal.proofs.Answers.{never, then_answered, then_assoc, then_same}
-use Rattle.region.specs.Edges.{Edge}
+use Rattle.region.specs.declared.Edge.{Edge}
 use Rattle.crossings.specs.declared.Crossings.{Crossings}
 use Rattle.crossings.specs.declared.AllAnswer.{AllAnswer}
 use Rattle.crossings.specs.Crossings.{listed, crossings_of, tested_of, all_finite, all_of, zero3, list_of, Lists}

@@ -13,7 +13,7 @@ use Rattle.domain.proofs.Counts.{count_in}
 use Rattle.refusal.specs.declared.Cause.{Cause}
 use Rattle.refusal.specs.Answer.{Answer, answer_of, and_then}
 use Rattle.region.specs.declared.Region.{Region}
-use Rattle.region.specs.Edges.{Edge}
+use Rattle.region.specs.declared.Edge.{Edge}
 use Rattle.region.specs.View.{nowhere}
 use Rattle.region.proofs.Containing.{room}
 use Rattle.region.proofs.Edges.{edges_left, edge_at, turn}

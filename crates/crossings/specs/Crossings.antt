@@ -6,7 +6,7 @@ use Rattle.coo3d.specs.Vectors.{is_finite_unit}
 use Rattle.float.specs.Doubles.{nought}
 use Rattle.refusal.specs.Answer.{Answer, answered, refused, refused_for, answer_of, outcome_of, refuse_if, and_then}
 use Rattle.domain.specs.Checks.{with_count}
-use Rattle.region.specs.Edges.{Edge}
+use Rattle.region.specs.declared.Edge.{Edge}
 use Rattle.region.specs.View.{View, edges_of}
 use Rattle.crossings.specs.declared.Crossings.{Crossings}
 use Rattle.crossings.specs.declared.AllAnswer.{AllAnswer}

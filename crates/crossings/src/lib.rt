@@ -5,7 +5,7 @@
 ghost use Rattle.std.specs.Prelude.{◌≡◌, Option, [], ◌<◌, ◌+◌, slice_set};
 ghost use Rattle.coo3d.specs.declared.UnitVect3.{UnitVect3};
 ghost use Rattle.refusal.specs.Answer.{answered, refused_for, answer_of, outcome_of, and_then};
-ghost use Rattle.region.specs.Edges.{Edge};
+ghost use Rattle.region.specs.declared.Edge.{Edge};
 ghost use Rattle.region.specs.View.{view_of};
 ghost use Rattle.crossings.specs.Crossings.{zeros, list_of, tested_of, first_answer, intersecting_of, all_crossings_of, first_crossing_of, Lists};
 

@@ -10,7 +10,7 @@ use Rattle.coo3d.proofs.Products.{dot_comm}
 use Rattle.coo3d.specs.Vectors.{vect_of_point, vect_of_unit, dot_of}
 use Rattle.float.specs.Doubles.{nought, abs_of}
 use Rattle.lists.specs.Counts.{exactly_one}
-use Rattle.region.specs.Edges.{Edge}
+use Rattle.region.specs.declared.Edge.{Edge}
 use Rattle.great_circles.specs.Arcs.{west_of, east_of, overlap_in_lon, intersect_point, in_edge, crossing_of, arc_crossing}
 
 &&-either : (s t : Bool) → s && t ≡ t && s

@@ -5,7 +5,7 @@ use Rattle.crossings.specs.Crossings.{listed, crossings_of, first_of, all_of, in
 use Rattle.domain.specs.Checks.{with_count}
 use Rattle.refusal.specs.declared.Cause.{Cause}
 use Rattle.refusal.specs.Answer.{Answer, answered, refuse_if, and_then, answer_of}
-use Rattle.region.specs.Edges.{Edge}
+use Rattle.region.specs.declared.Edge.{Edge}
 use Rattle.region.specs.View.{View, edges_of}
 use Rattle.parallels.specs.declared.Parallel.{Parallel}
 use Rattle.parallels.specs.Parallels.{is_parallel, spans_lat, point_of, parallel_crossing}

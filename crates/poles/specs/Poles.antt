@@ -10,7 +10,7 @@ use Rattle.domain.specs.Domain.{in_domain}
 use Rattle.lists.specs.Counts.{exactly_one, is_odd, every}
 use Rattle.refusal.specs.Answer.{answered, answer_of}
 use Rattle.region.specs.declared.Region.{Region}
-use Rattle.region.specs.Edges.{Edge}
+use Rattle.region.specs.declared.Edge.{Edge}
 use Rattle.region.specs.Region.{contains_of, seam_count_of}
 use Rattle.region.specs.View.{view_of, edges_of, in_range_count}
 

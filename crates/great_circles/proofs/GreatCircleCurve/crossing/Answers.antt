@@ -5,7 +5,7 @@ use Rattle.std.specs.declared.option.Option.TheVariants.{None, Some}
 use Rattle.coo3d.specs.declared.UnitVect3.{UnitVect3}
 use Rattle.coo3d.specs.declared.Vect3.{Vect3}
 use Rattle.coo3d.specs.Vectors.{vect_of_point, cross_of, normalized_of, unit_opposite_of}
-use Rattle.region.specs.Edges.{Edge}
+use Rattle.region.specs.declared.Edge.{Edge}
 use Rattle.great_circles.specs.Circles.{is_beyond, circle_crossing}
 use Rattle.great_circles.proofs.GreatCircleCurve.crossing.Goals as goal
 
