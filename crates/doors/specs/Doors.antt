@@ -1,11 +1,9 @@
 -- What the C doors answer, and what they leave in the file: document 01, 'Region file'. The file is tested before the point.
-use Rattle.std.specs.declared.result.Result.{Result}
-use Rattle.refusal.specs.declared.Cause.{Cause}
-use Rattle.std.specs.Prelude.{ℕ, ◌+◌, Bool, cond, List, ⊤}
+use Rattle.std.specs.Prelude.{ℕ, ◌+◌, Bool, cond, List}
 use Rattle.coo3d.specs.declared.Coo3D.{Coo3D}
 use Rattle.edits.specs.Edits.{edit_of}
 use Rattle.edits.specs.Edits as edit
-use Rattle.refusal.specs.Answer.{Answer, answered, refused, and_then, outcome_of}
+use Rattle.refusal.specs.Answer.{Answer, answered, refused, and_then}
 use Rattle.region.specs.View.{View}
 use Rattle.region.specs.Region.{contains_of}
 use Rattle.region_file.specs.File.{read_of, with_flag_field}
@@ -14,10 +12,6 @@ use Rattle.region_file.specs.File.{read_of, with_flag_field}
 abbrev pub code_of : {A : Type 0} → (A → ℕ) → Answer A → ℕ
 code_of say (answered a) = say a
 code_of say (refused number values) = 16 + number
-
--- 0 where the call is done
-abbrev pub outcome_code : Result ⊤ Cause → ℕ
-outcome_code outcome = code_of {A = ℕ} (λ n. n) (outcome_of outcome 0)
 
 -- 1 inside, 0 outside
 abbrev pub in_or_out : Bool → ℕ

@@ -1,50 +1,51 @@
 // Two calls over a region file's bytes: docs/CALLS.md. C calls them by way of doors_c.
 #![tactic(auto)]
 
-ghost use Rattle.std.specs.Prelude.{◌≡◌, ◌+◌};
-ghost use Rattle.refusal.specs.Answer.{answer_of};
-ghost use Rattle.refusal.specs.Table.{number_of};
-ghost use Rattle.doors.specs.Doors.{code_of, in_or_out, outcome_code, contains_code, hold_code, held_file};
+ghost use Rattle.std.specs.Prelude.{◌≡◌, true};
+ghost use Rattle.refusal.specs.Answer.{and_then, verdict, answer_of, outcome_of};
+ghost use Rattle.region.specs.Region.{contains_of};
+ghost use Rattle.region_file.specs.File.{read_of};
+ghost use Rattle.doors.specs.Doors.{code_of, contains_code, held_of, hold_code, held_file};
 
 use coo3d::Coo3D;
 use refusal::Cause;
 
-fn refusal_code(cause: Cause) -> u32
-    ensures { result ≡ 16 + number_of cause }
+// A call's answer as C has it: a number, or 16 plus the refusal's.
+fn code(answer: Result<u32, Cause>) -> u32
+    ensures { result ≡ code_of (λ n. n) (answer_of answer) }
 {
-    16 + refusal::number(cause) as u32
-}
-
-fn outcome_code(outcome: Result<(), Cause>) -> u32
-    ensures { result ≡ outcome_code outcome }
-{
-    match outcome {
-        Ok(()) => 0,
-        Err(cause) => refusal_code(cause),
+    match answer {
+        Ok(n) => n,
+        Err(cause) => 16 + refusal::number(cause) as u32,
     }
 }
 
-fn decision_code(decision: Result<bool, Cause>) -> u32
-    ensures { result ≡ code_of in_or_out (answer_of decision) }
+// Whether the file's region contains the point.
+fn contains(file: &[u8], coo: Coo3D) -> Result<bool, Cause>
+    ensures { answer_of result ≡ and_then (read_of file.now) (λ v. contains_of v coo) }
 {
-    match decision {
-        Ok(true) => 1,
-        Ok(false) => 0,
-        Err(cause) => refusal_code(cause),
-    }
+    let read = region_file::read(file);
+    read.outcome?;
+    region::contains(read.region, coo)
+}
+
+// Sets the file's flag field so that its region contains the point.
+fn hold(file: &mut [u8], coo: Coo3D) -> Result<(), Cause>
+    ensures answer { outcome_of result true ≡ verdict (held_of file.old coo) }
+    ensures file_after { file.new ≡ held_file file.old coo }
+{
+    let read = region_file::read(file);
+    read.outcome?;
+    let held = edits::hold(read.region, coo);
+    held.outcome?;
+    region_file::set_flag(file, held.region.contains_south_pole)
 }
 
 // 1 where the file's region contains the point, 0 where it does not, or 16 plus the refusal's number.
 pub fn jigwandor_contains(file: &[u8], x: f64, y: f64, z: f64, lon: f64, lat: f64) -> u32
     ensures { result ≡ contains_code file.now (record { x = x; y = y; z = z; lon = lon; lat = lat }) }
 {
-    let read = region_file::read(file);
-    let outcome = read.outcome;
-    let Ok(()) = outcome else {
-        return outcome_code(outcome);
-    };
-    let region = read.region;
-    decision_code(region::contains(region, Coo3D { x, y, z, lon, lat }))
+    code(contains(file, Coo3D { x, y, z, lon, lat }).map(u32::from))
 }
 
 // Sets the file's flag field so that its region contains the point: 0, or 16 plus the refusal's number, and then every byte is left.
@@ -52,18 +53,5 @@ pub fn jigwandor_hold(file: &mut [u8], x: f64, y: f64, z: f64, lon: f64, lat: f6
     ensures answer { result ≡ hold_code file.old (record { x = x; y = y; z = z; lon = lon; lat = lat }) }
     ensures file_after { file.new ≡ held_file file.old (record { x = x; y = y; z = z; lon = lon; lat = lat }) }
 {
-    let read = region_file::read(file);
-    let outcome = read.outcome;
-    let Ok(()) = outcome else {
-        return outcome_code(outcome);
-    };
-    let region = read.region;
-    let held = edits::hold(region, Coo3D { x, y, z, lon, lat });
-    let holding = held.outcome;
-    let Ok(()) = holding else {
-        return outcome_code(holding);
-    };
-    let after = held.region;
-    let _ = region_file::set_flag(file, after.contains_south_pole);
-    0
+    code(hold(file, Coo3D { x, y, z, lon, lat }).map(|()| 0))
 }

@@ -6,7 +6,10 @@ use lib.ListN.{length, take}
 use lib.Seq.{take_all}
 use native.Mathlib.Nat.{le_of_eq}
 use Rattle.coo3d.specs.declared.Coo3D.{Coo3D}
-use Rattle.refusal.specs.Answer.{answered, refused}
+use mathlib.Core.Bool.{true}
+use Rattle.refusal.specs.Answer.{Answer, answered, refused, and_then, verdict}
+use Rattle.refusal.proofs.Answers.{never}
+use Rattle.region.specs.View.{View}
 use Rattle.region.specs.Poles.{fixed_rule}
 use Rattle.region.specs.Region.{build_of}
 use Rattle.region.proofs.Builds.{build_first}
@@ -30,3 +33,12 @@ read_built s t l whole e w p =
     let n = t.count in
     let cs = corners_at s (length s - whole) n in
     rw (sym e, sym w) (build_first l cs n (fixed_rule t.flag) (p ∙ sym (take_all n cs (le_of_eq (length_corners s (length s - whole) n)))))
+
+-- the trailer of a file that was read is taken
+pub read_taken : (s : List ℕ) (v : View) → read_of s ≡ answered v → verdict (trailer_of s) ≡ answered true
+unfolding read_of
+read_taken s v = go (trailer_of s)
+  where
+    go : (x : Answer Trailer) → and_then x (λ t. build_of (corners_at s (length s - file_length t.count) t.count) t.count (fixed_rule t.flag)) ≡ answered v → verdict x ≡ answered true
+    go (answered t) e = refl
+    go (refused k vs) e = never e

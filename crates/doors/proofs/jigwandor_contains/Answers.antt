@@ -1,11 +1,9 @@
 -- `doors::jigwandor_contains` meets its contract. Assumes nothing.
-use mathlib.Core.Path.{◌∙◌}
-use Rattle.region.proofs.Answered.{as_answer}
-use Rattle.doors.proofs.Codes.{contains_unread, contains_done}
+use mathlib.Core.Path.{ap, ◌∙◌}
+use Rattle.doors.specs.Doors.{code_of, in_or_out, contains_code}
+use Rattle.doors.proofs.Codes.{mapped}
 use Rattle.doors.proofs.jigwandor_contains.Goals as goal
 
-pub returns-in_default : goal.returns-in_default
-returns-in_default c = c.outcome_code.ensures ∙ contains_unread _ _ _ _ (as_answer _ _ c.read-read.ensures) _ c.in_default.is
-
 pub returns : goal.returns
-returns c = c.decision_code.ensures ∙ contains_done _ _ _ _ (as_answer _ _ c.read-read.ensures) _ c.in-Ok.is c.contains.ensures
+unfolding contains_code
+returns c = c.code.ensures ∙ mapped _ _ c.map.ensures.cases ∙ ap (code_of in_or_out) c.contains.ensures
