@@ -1,173 +1,189 @@
-// What the library's answers look like in the stream: a status of 0 and the answer's words, or a refusal.
+// What is kept from one request to the next, and what the library's answers look like in the stream.
 #![tactic(auto)]
 
-ghost use Rattle.std.specs.Prelude.{◌≤◌};
+use coo3d::{Coo3D, LonLat, UnitVect3, Vect3};
+use crossings::{AllAnswer, Crossings};
+use refusal::Cause;
+use region::Region;
+use stream::{FromWords, Reader, Writer};
+use zone::Zone;
 
-use coo3d::{Coo3D, UnitVect3, Vect3};
-use crossings::{AllAnswer, FirstAnswer};
-use refusal::{Cause, Decision, Outcome};
-use region::{Built, CountAnswer, Region};
-use stream::{Buffer, Stream};
+// What an answer is made of.
+pub trait ToWords {
+    fn put_to(&self, words: &mut Writer<'_>) -> stream::Result<()>;
+}
 
-// The region that is kept after a request.
-#[derive(Clone, Copy)]
-pub struct Kept {
+// The stream, and what requests keep: a region, at first one of no corner, and a zone, at first none.
+#[derive(Drop)]
+pub struct Session<'a> {
+    pub reader: Reader<'a>,
+    pub writer: Writer<'a>,
     pub region: Region,
-    pub stream: Stream,
+    pub zone: Option<Zone>,
 }
 
-// The number, and what stands beside it.
-pub fn put_refusal(s: Stream, out: &mut Buffer, cause: Cause) -> Stream {
-    let t = stream::put(s, out, refusal::number(cause));
-    match cause {
-        Cause::OutsideDomain(index) => stream::put(t, out, index as u64),
-        Cause::ShortOutput(needed) => stream::put(t, out, needed as u64),
-        _ => t,
-    }
-}
-
-// The status, where nothing else is answered.
-pub fn put_done(s: Stream, out: &mut Buffer) -> Stream {
-    stream::put(s, out, 0)
-}
-
-// The status, and the answer's first word.
-pub fn put_answered(s: Stream, out: &mut Buffer, first: u64) -> Stream {
-    let t = put_done(s, out);
-    stream::put(t, out, first)
-}
-
-pub fn put_decision(s: Stream, out: &mut Buffer, d: Decision) -> Stream {
-    match d {
-        Decision::Yes => put_answered(s, out, 1),
-        Decision::No => put_answered(s, out, 0),
-        Decision::Refused(cause) => put_refusal(s, out, cause),
-    }
-}
-
-pub fn put_count(s: Stream, out: &mut Buffer, n: CountAnswer) -> Stream {
-    match n {
-        CountAnswer::Count(count) => put_answered(s, out, count as u64),
-        CountAnswer::Refused(cause) => put_refusal(s, out, cause),
-    }
-}
-
-pub fn put_unit(s: Stream, out: &mut Buffer, p: UnitVect3) -> Stream {
-    stream::put_vector(s, out, p.to_vect3())
-}
-
-pub fn put_first(s: Stream, out: &mut Buffer, a: FirstAnswer) -> Stream {
-    match a {
-        FirstAnswer::At(p) => {
-            let t = put_answered(s, out, 1);
-            put_unit(t, out, p)
+impl<'a> Session<'a> {
+    pub fn new(reader: Reader<'a>, writer: Writer<'a>) -> Session<'a> {
+        Session {
+            reader,
+            writer,
+            region: region::empty(),
+            zone: None,
         }
-        FirstAnswer::None => put_answered(s, out, 0),
-        FirstAnswer::Refused(cause) => put_refusal(s, out, cause),
+    }
+
+    pub fn get<T: FromWords>(&mut self) -> stream::Result<T> {
+        self.reader.get()
+    }
+
+    pub fn put<T: ToWords + Drop>(&mut self, answer: T) -> stream::Result<()> {
+        answer.put_to(&mut self.writer)
+    }
+
+    // The region that a call gave is kept where the call was done.
+    pub fn keep(&mut self, outcome: Result<(), Cause>, region: Region) -> stream::Result<()> {
+        if outcome.is_ok() {
+            self.region = region;
+        }
+        self.put(outcome)
     }
 }
 
-// How many entries of an array of 64 a count takes in.
-fn entries(count: usize) -> usize
-    ensures { result ≤ 64 }
-{
-    if count <= 64 { count } else { 64 }
-}
-
-fn put_units(s: Stream, out: &mut Buffer, points: [UnitVect3; 64], count: usize) -> Stream {
-    let n = entries(count);
-    let mut stream = s;
-    let mut i: usize = 0;
-    while i < n {
-        let p = points[i];
-        stream = put_unit(stream, out, p);
-        i += 1;
-    }
-    stream
-}
-
-pub fn put_all(s: Stream, out: &mut Buffer, a: AllAnswer) -> Stream {
-    let outcome = a.outcome;
-    match outcome {
-        Outcome::Refused(cause) => put_refusal(s, out, cause),
-        Outcome::Done => {
-            let crossings = a.crossings;
-            let points = crossings.points;
-            let len = crossings.len;
-            let t = put_answered(s, out, len as u64);
-            put_units(t, out, points, len)
+// A status of 0 and the answer, or the refusal's number and what stands beside it.
+impl<T: ToWords> ToWords for Result<T, Cause> {
+    fn put_to(&self, words: &mut Writer<'_>) -> stream::Result<()> {
+        match self {
+            Ok(answer) => {
+                words.put(0)?;
+                answer.put_to(words)
+            }
+            Err(cause) => {
+                words.put(refusal::number(*cause))?;
+                match *cause {
+                    Cause::OutsideDomain(index) => index.put_to(words),
+                    Cause::ShortOutput(needed) => needed.put_to(words),
+                    _ => Ok(()),
+                }
+            }
         }
     }
 }
 
-fn put_corners(s: Stream, out: &mut Buffer, corners: [Coo3D; 64], count: usize) -> Stream {
-    let n = entries(count);
-    let mut stream = s;
-    let mut i: usize = 0;
-    while i < n {
-        let p = corners[i];
-        stream = stream::put_point(stream, out, p);
-        i += 1;
+// Whether there is one, and that one.
+impl<T: ToWords> ToWords for Option<T> {
+    fn put_to(&self, words: &mut Writer<'_>) -> stream::Result<()> {
+        match self {
+            Some(answer) => {
+                true.put_to(words)?;
+                answer.put_to(words)
+            }
+            None => false.put_to(words),
+        }
     }
-    stream
 }
 
-fn put_normals(s: Stream, out: &mut Buffer, normals: [Vect3; 64], count: usize) -> Stream {
-    let n = entries(count);
-    let mut stream = s;
-    let mut i: usize = 0;
-    while i < n {
-        let v = normals[i];
-        stream = stream::put_vector(stream, out, v);
-        i += 1;
+impl ToWords for () {
+    fn put_to(&self, _: &mut Writer<'_>) -> stream::Result<()> {
+        Ok(())
     }
-    stream
+}
+
+impl ToWords for u64 {
+    fn put_to(&self, words: &mut Writer<'_>) -> stream::Result<()> {
+        words.put(*self)
+    }
+}
+
+impl ToWords for usize {
+    fn put_to(&self, words: &mut Writer<'_>) -> stream::Result<()> {
+        words.put(*self as u64)
+    }
+}
+
+impl ToWords for bool {
+    fn put_to(&self, words: &mut Writer<'_>) -> stream::Result<()> {
+        words.put(*self as u64)
+    }
+}
+
+impl ToWords for f64 {
+    fn put_to(&self, words: &mut Writer<'_>) -> stream::Result<()> {
+        words.put(float::to_bits(*self))
+    }
+}
+
+impl<T: ToWords, U: ToWords> ToWords for (T, U) {
+    fn put_to(&self, words: &mut Writer<'_>) -> stream::Result<()> {
+        self.0.put_to(words)?;
+        self.1.put_to(words)
+    }
+}
+
+impl<T: ToWords> ToWords for &[T] {
+    fn put_to(&self, words: &mut Writer<'_>) -> stream::Result<()> {
+        for value in *self {
+            value.put_to(words)?;
+        }
+        Ok(())
+    }
+}
+
+impl ToWords for Vect3 {
+    fn put_to(&self, words: &mut Writer<'_>) -> stream::Result<()> {
+        [self.x, self.y, self.z].as_slice().put_to(words)
+    }
+}
+
+impl ToWords for UnitVect3 {
+    fn put_to(&self, words: &mut Writer<'_>) -> stream::Result<()> {
+        self.to_vect3().put_to(words)
+    }
+}
+
+impl ToWords for Coo3D {
+    fn put_to(&self, words: &mut Writer<'_>) -> stream::Result<()> {
+        [self.x, self.y, self.z, self.lon, self.lat]
+            .as_slice()
+            .put_to(words)
+    }
+}
+
+impl ToWords for LonLat {
+    fn put_to(&self, words: &mut Writer<'_>) -> stream::Result<()> {
+        (self.lon, self.lat).put_to(words)
+    }
+}
+
+impl ToWords for Crossings {
+    fn put_to(&self, words: &mut Writer<'_>) -> stream::Result<()> {
+        self.len.put_to(words)?;
+        for point in self.points.iter().take(self.len) {
+            point.put_to(words)?;
+        }
+        Ok(())
+    }
+}
+
+impl ToWords for AllAnswer {
+    fn put_to(&self, words: &mut Writer<'_>) -> stream::Result<()> {
+        self.outcome.map(|()| self.crossings).put_to(words)
+    }
 }
 
 // The count, the flag, the corners and the normals; a count of 0 or above 64 is refused.
-pub fn put_region(s: Stream, out: &mut Buffer, r: Region) -> Stream {
-    let count = r.count;
-    if count == 0 {
-        return put_refusal(s, out, Cause::NoPoint);
-    }
-    if count > 64 {
-        return put_refusal(s, out, Cause::TooManyPoints);
-    }
-    let corners = r.vertices;
-    let normals = r.cross_products;
-    let t = put_answered(s, out, count as u64);
-    let u = stream::put_bool(t, out, r.contains_south_pole);
-    let v = put_corners(u, out, corners, count);
-    put_normals(v, out, normals, count)
-}
-
-// The region that a call gave is kept where the call was done, and the one before it where it was refused.
-pub fn put_outcome(
-    s: Stream,
-    out: &mut Buffer,
-    before: Region,
-    after: Region,
-    outcome: Outcome,
-) -> Kept {
-    match outcome {
-        Outcome::Done => {
-            let stream = put_done(s, out);
-            Kept {
-                region: after,
-                stream,
-            }
+impl ToWords for Region {
+    fn put_to(&self, words: &mut Writer<'_>) -> stream::Result<()> {
+        let count = match self.count {
+            0 => Err(Cause::NoPoint),
+            1..=64 => Ok(self.count),
+            _ => Err(Cause::TooManyPoints),
+        };
+        count.put_to(words)?;
+        if let Ok(count) = count {
+            self.contains_south_pole.put_to(words)?;
+            (&self.vertices[..count]).put_to(words)?;
+            (&self.cross_products[..count]).put_to(words)?;
         }
-        Outcome::Refused(cause) => {
-            let stream = put_refusal(s, out, cause);
-            Kept {
-                region: before,
-                stream,
-            }
-        }
+        Ok(())
     }
-}
-
-pub fn put_built(s: Stream, out: &mut Buffer, before: Region, built: Built) -> Kept {
-    let outcome = built.outcome;
-    put_outcome(s, out, before, built.region, outcome)
 }

@@ -1,11 +1,12 @@
-// Points and vectors. Upstream: src/sph_geom/coo3d.rs, whose trait `Vec3` is here the struct `Vect3` and a `to_vect3` of each other type.
+// Points and vectors. Upstream: src/sph_geom/coo3d.rs.
 #![tactic(auto)]
 
 ghost use Rattle.std.specs.Prelude.{◌≡◌};
-ghost use Rattle.coo3d.specs.Vectors.{origin, zero_vect, vect_of_point, vect_of_unit, dot_of, cross_of, opposite_of, squared_norm, norm_of, is_unit, normalized_of, squared_dist_of, unit_of, unit_opposite_of, is_finite_unit};
+ghost use Rattle.coo3d.specs.declared.Vect3.{Vect3};
+ghost use Rattle.coo3d.specs.Vectors.{origin, zero_vect, vect_of_point, vect_of_unit, dot_of, cross_of, opposite_of, squared_norm, norm_of, is_unit, scaled_by, normalized_of, squared_dist_of, unit_of, unit_opposite_of, is_finite_unit};
 
 // A point of the sphere, by Cartesian and by geographic coordinates, which need not agree.
-#[derive(Clone, Copy)]
+#[derive(Clone, Copy, PartialEq)]
 pub struct Coo3D {
     pub x: f64,
     pub y: f64,
@@ -15,7 +16,7 @@ pub struct Coo3D {
 }
 
 // A plain vector.
-#[derive(Clone, Copy)]
+#[derive(Clone, Copy, PartialEq)]
 pub struct Vect3 {
     pub x: f64,
     pub y: f64,
@@ -23,35 +24,95 @@ pub struct Vect3 {
 }
 
 // A vector that was scaled to the norm 1, up to rounding.
-#[derive(Clone, Copy)]
+#[derive(Clone, Copy, PartialEq)]
 pub struct UnitVect3 {
     pub x: f64,
     pub y: f64,
     pub z: f64,
 }
 
-#[derive(Clone, Copy)]
+#[derive(Clone, Copy, PartialEq)]
 pub struct LonLat {
     pub lon: f64,
     pub lat: f64,
 }
 
-// 2 ^ -52, upstream's `f64::EPSILON`.
-const EPSILON: f64 = 2.220446049250313e-16;
+// What has the coordinates of a vector: a point and a unit vector do.
+pub trait Vec3: Copy {
+    // The vector with those coordinates.
+    ghost vect: { Self → Vect3 };
 
-pub fn dot_product(v1: Vect3, v2: Vect3) -> f64
-    ensures { result ≡ dot_of v1 v2 }
-{
-    v1.x * v2.x + v1.y * v2.y + v1.z * v2.z
+    fn x(self) -> f64
+        ensures { result ≡ (vect self).x };
+
+    fn y(self) -> f64
+        ensures { result ≡ (vect self).y };
+
+    fn z(self) -> f64
+        ensures { result ≡ (vect self).z };
 }
 
-pub fn cross_product(v1: Vect3, v2: Vect3) -> Vect3
-    ensures { result ≡ cross_of v1 v2 }
+impl Vec3 for Coo3D {
+    ghost vect = { vect_of_point };
+
+    fn x(self) -> f64 {
+        self.x
+    }
+
+    fn y(self) -> f64 {
+        self.y
+    }
+
+    fn z(self) -> f64 {
+        self.z
+    }
+}
+
+impl Vec3 for Vect3 {
+    ghost vect = { λ v. v };
+
+    fn x(self) -> f64 {
+        self.x
+    }
+
+    fn y(self) -> f64 {
+        self.y
+    }
+
+    fn z(self) -> f64 {
+        self.z
+    }
+}
+
+impl Vec3 for UnitVect3 {
+    ghost vect = { vect_of_unit };
+
+    fn x(self) -> f64 {
+        self.x
+    }
+
+    fn y(self) -> f64 {
+        self.y
+    }
+
+    fn z(self) -> f64 {
+        self.z
+    }
+}
+
+pub fn dot_product<A: Vec3, B: Vec3>(v1: A, v2: B) -> f64
+    ensures { result ≡ dot_of (A.vect v1) (B.vect v2) }
+{
+    v1.x() * v2.x() + v1.y() * v2.y() + v1.z() * v2.z()
+}
+
+pub fn cross_product<A: Vec3, B: Vec3>(v1: A, v2: B) -> Vect3
+    ensures { result ≡ cross_of (A.vect v1) (B.vect v2) }
 {
     Vect3 {
-        x: v1.y * v2.z - v1.z * v2.y,
-        y: v1.z * v2.x - v1.x * v2.z,
-        z: v1.x * v2.y - v1.y * v2.x,
+        x: v1.y() * v2.z() - v1.z() * v2.y(),
+        y: v1.z() * v2.x() - v1.x() * v2.z(),
+        z: v1.x() * v2.y() - v1.y() * v2.x(),
     }
 }
 
@@ -66,7 +127,31 @@ pub fn is_unit_from_norm(norm: f64) -> bool
     ensures { result ≡ is_unit norm }
 {
     let step = norm - 1.0;
-    float::max(step, -step) <= EPSILON
+    float::max(step, -step) <= f64::EPSILON
+}
+
+impl From<Coo3D> for Vect3 {
+    ghost from_gives = { λ p v. v ≡ vect_of_point p };
+
+    fn from(p: Coo3D) -> Vect3 {
+        Vect3 {
+            x: p.x,
+            y: p.y,
+            z: p.z,
+        }
+    }
+}
+
+impl From<UnitVect3> for Vect3 {
+    ghost from_gives = { λ u v. v ≡ vect_of_unit u };
+
+    fn from(u: UnitVect3) -> Vect3 {
+        Vect3 {
+            x: u.x,
+            y: u.y,
+            z: u.z,
+        }
+    }
 }
 
 impl Coo3D {
@@ -86,11 +171,7 @@ impl Coo3D {
     pub fn to_vect3(self) -> Vect3
         ensures { result ≡ vect_of_point self }
     {
-        Vect3 {
-            x: self.x,
-            y: self.y,
-            z: self.z,
-        }
+        self.into()
     }
 }
 
@@ -127,21 +208,16 @@ impl Vect3 {
         }
     }
 
-    pub fn squared_euclidean_dist(self, other: Vect3) -> f64
-        ensures { result ≡ squared_dist_of self other }
+    pub fn squared_euclidean_dist<V: Vec3>(self, other: V) -> f64
+        ensures { result ≡ squared_dist_of self (V.vect other) }
     {
-        squared_norm_of(self.x - other.x, self.y - other.y, self.z - other.z)
+        squared_norm_of(self.x - other.x(), self.y - other.y(), self.z - other.z())
     }
 
     pub fn normalized(self) -> UnitVect3
         ensures { result ≡ normalized_of self }
     {
-        let norm = self.norm();
-        UnitVect3 {
-            x: self.x / norm,
-            y: self.y / norm,
-            z: self.z / norm,
-        }
+        UnitVect3::scaled_by(self.norm(), self.x, self.y, self.z)
     }
 }
 
@@ -154,12 +230,17 @@ impl UnitVect3 {
         if is_unit_from_norm(norm2) {
             UnitVect3 { x, y, z }
         } else {
-            let norm = root::sqrt(norm2);
-            UnitVect3 {
-                x: x / norm,
-                y: y / norm,
-                z: z / norm,
-            }
+            UnitVect3::scaled_by(root::sqrt(norm2), x, y, z)
+        }
+    }
+
+    fn scaled_by(norm: f64, x: f64, y: f64, z: f64) -> UnitVect3
+        ensures { result ≡ scaled_by norm x y z }
+    {
+        UnitVect3 {
+            x: x / norm,
+            y: y / norm,
+            z: z / norm,
         }
     }
 
@@ -179,10 +260,6 @@ impl UnitVect3 {
     pub fn to_vect3(self) -> Vect3
         ensures { result ≡ vect_of_unit self }
     {
-        Vect3 {
-            x: self.x,
-            y: self.y,
-            z: self.z,
-        }
+        self.into()
     }
 }

@@ -13,7 +13,8 @@ use Rattle.lists.specs.Counts.{exactly_one, odd_many, how_many}
 use Rattle.lists.proofs.Many.{many_turn, many_done}
 use Rattle.refusal.specs.Answer.{Answer, answered, refused, refuse_if, and_then, answer_of}
 use Rattle.region.specs.declared.Region.{Region}
-use Rattle.region.specs.Edges.{Edge, is_in_range, is_counted}
+use Rattle.region.specs.declared.Edge.{Edge}
+use Rattle.region.specs.Edges.{is_in_range, is_counted}
 use Rattle.region.specs.Region.{contains_of}
 use Rattle.region.specs.View.{View, view_of, nowhere, edges_of, in_range_count, odd_at, contained}
 use Rattle.region.proofs.Containing.{passed, all_passed}

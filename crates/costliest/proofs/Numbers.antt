@@ -25,7 +25,8 @@ use Rattle.making.specs.Made.{Made}
 use Rattle.making.proofs.Made.{is_made}
 use Rattle.refusal.specs.Answer.{Answer, answered, refused, refuse_if, and_then}
 use Rattle.region.specs.declared.Region.{Region}
-use Rattle.region.specs.Edges.{Edge, edge, is_in_range}
+use Rattle.region.specs.declared.Edge.{Edge}
+use Rattle.region.specs.Edges.{edge, is_in_range}
 use Rattle.region.specs.Made.{IsMade}
 use Rattle.region.specs.View.{View, view_of, nowhere, made, edges_of, in_range_count}
 use Rattle.region.proofs.Drawn.{odd_drawn, each_drawn}

@@ -22,7 +22,8 @@ use Rattle.lists.proofs.Alternating.{alternates_take, closed_steps}
 use Rattle.lists.proofs.Many.{many_same}
 use Rattle.lists.proofs.Odd.{changes, false_one}
 use Rattle.refusal.specs.Answer.{answered}
-use Rattle.region.specs.Edges.{Edge, edge, is_in_range}
+use Rattle.region.specs.declared.Edge.{Edge}
+use Rattle.region.specs.Edges.{edge, is_in_range}
 use Rattle.region.specs.View.{nowhere, seams_from, seams_of, made, in_range_count}
 use Rattle.region.specs.Region.{build_of}
 use Rattle.region.proofs.Drawn.{many_drawn, each_drawn}

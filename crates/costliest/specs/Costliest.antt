@@ -1,9 +1,7 @@
 -- How many edges are in range at most, and an outline that has as many. The theorems speak of whatever answers
 -- meet the calls' contracts.
-use Rattle.std.specs.declared.result.Result.{Result}
-use Rattle.std.specs.declared.result.Result.TheVariants.{Ok}
 use Rattle.refusal.specs.declared.Cause.{Cause}
-use Rattle.std.specs.Prelude.{ℕ, ◌-◌, ◌≤◌, ◌≡◌, true, false}
+use Rattle.std.specs.Prelude.{ℕ, ◌-◌, ◌≤◌, ◌≡◌, true, false, Result, Ok}
 use Rattle.coo3d.specs.declared.Coo3D.{Coo3D}
 use Rattle.cost.specs.declared.CostliestOutline.{CostliestOutline}
 use Rattle.cost.specs.declared.RangedDecision.{RangedDecision}

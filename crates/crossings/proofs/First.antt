@@ -1,25 +1,20 @@
--- Laws of `first_of` over the edges that are left, and what the first answer is to the list.
-use Prim.Native.Nat.{ℕ}
+-- Laws of `first_of` for a loop that has the crossing of each edge tested, and what the first answer is to the list.
 use mathlib.Core.Path.{◌≡◌, refl, sym, ap, ◌∙◌}
 use mathlib.Core.Bool.{Bool, true, false, not, ◌&&◌}
 use mathlib.Core.List.{List, [], ◌∷◌, ◌++◌}
 use lib.ListN.{take}
 use Rattle.std.specs.declared.option.Option.{Option}
 use Rattle.std.specs.declared.option.Option.TheVariants.{None, Some}
+use Rattle.std.specs.declared.result.Result.{Result}
+use Rattle.std.specs.declared.result.Result.TheVariants.{Ok, Err}
 use Rattle.coo3d.specs.declared.UnitVect3.{UnitVect3}
 use Rattle.coo3d.specs.Vectors.{is_finite_unit}
-use Rattle.refusal.specs.Answer.{Answer, answered, refused, refuse_if, and_then}
+use Rattle.refusal.specs.declared.Cause.{Cause}
+use Rattle.refusal.specs.Answer.{Answer, answered, refused_for, refuse_if, and_then, answer_of}
 use Rattle.refusal.proofs.Answers.{never, same_answer}
-use Rattle.crossings.specs.Crossings.{listed, crossings_of, tested_of, all_finite, all_of, first_of}
-
--- a crossing that was tested and passed is the first answer
-pub tested_at : (p : UnitVect3) (c : Option UnitVect3) → tested_of c ≡ answered (Some p) → c ≡ Some p
-tested_at p None e = cc
-tested_at p (Some q) e = go (is_finite_unit q) e
-  where
-    go : (b : Bool) → refuse_if (not b) 6 [] (answered (Some q)) ≡ answered (Some p) → Some q ≡ Some p
-    go true h = cc
-    go false h = never h
+use Rattle.region.specs.declared.Edge.{Edge}
+use Rattle.crossings.specs.Crossings.{first_answer, listed, crossings_of, tested_of, all_finite, all_of, first_of}
+use Rattle.crossings.proofs.Turns.{Turn}
 
 -- where neither is refused, the first answer is the head of the list, or none
 pub head_of_all : (ps qs rs : List UnitVect3) → first_of ps ≡ answered qs → all_of ps ≡ answered rs → qs ≡ take 1 rs
@@ -32,16 +27,7 @@ head_of_all (p ∷ ps) qs rs f a = go (is_finite_unit p) (all_finite ps) f a
     go true false f a = never a
     go false d f a = never f
 
--- a crossing that was refused is refused as 6
-pub tested_refused : (c : Option UnitVect3) (n : ℕ) (vs : List ℕ) → refused n vs ≡ tested_of c → tested_of c ≡ refused 6 []
-tested_refused None n vs e = never e
-tested_refused (Some p) n vs e = go (is_finite_unit p) e
-  where
-    go : (b : Bool) → refused n vs ≡ refuse_if (not b) 6 [] (answered (Some p)) → refuse_if (not b) 6 [] (answered (Some p)) ≡ refused 6 []
-    go true e = never e
-    go false e = refl
-
--- ---- the first answer, by the test of each edge's crossing in turn
+-- ---- the first answer, by the test of the first edge's crossing
 
 abbrev pick : Option UnitVect3 → Answer (List UnitVect3) → Answer (List UnitVect3)
 pick None next = next
@@ -56,20 +42,39 @@ by_test (Some p) rest = go (is_finite_unit p)
     go true = refl
     go false = refl
 
-module _ {E : Type 0} (hit : E → Option UnitVect3) (e : E) (es : List E) where
-  first_tested : first_of (crossings_of hit (e ∷ es)) ≡ and_then (tested_of (hit e)) (λ d. pick d (first_of (crossings_of hit es)))
+module _ {hit : Edge → Option UnitVect3} {left rest : List Edge} {t : Result (Option UnitVect3) Cause} (turn : Turn hit left rest t) where
+  ahead : first_of (crossings_of hit left) ≡ and_then (answer_of t) (λ d. pick d (first_of (crossings_of hit rest)))
   unfolding crossings_of
-  first_tested = by_test (hit e) (crossings_of hit es)
+  ahead = rw (turn.next, turn.told, by_test (hit turn.edge) (crossings_of hit rest))
 
-  pub first_passed : tested_of (hit e) ≡ answered None → first_of (crossings_of hit (e ∷ es)) ≡ first_of (crossings_of hit es)
-  first_passed h = first_tested ∙ rw h
+  pub first_passed : t ≡ Ok None → first_of (crossings_of hit left) ≡ first_of (crossings_of hit rest)
+  first_passed e = ahead ∙ rw e
 
-  pub first_found : (p : UnitVect3) → tested_of (hit e) ≡ answered (Some p) → first_of (crossings_of hit (e ∷ es)) ≡ answered (p ∷ [])
-  first_found p h = first_tested ∙ rw h
+  pub first_found : (p : UnitVect3) → t ≡ Ok (Some p) → first_of (crossings_of hit left) ≡ answered (p ∷ [])
+  first_found p e = ahead ∙ rw e
 
-  pub first_refused : (n : ℕ) (vs : List ℕ) → tested_of (hit e) ≡ refused n vs → first_of (crossings_of hit (e ∷ es)) ≡ refused n vs
-  first_refused n vs h = first_tested ∙ rw h
+  pub first_refused : (cause : Cause) → t ≡ Err cause → first_of (crossings_of hit left) ≡ refused_for cause
+  first_refused cause e = ahead ∙ rw e
 
-pub first_none_left : {E : Type 0} (hit : E → Option UnitVect3) → first_of (crossings_of hit []) ≡ answered []
+pub first_none_left : (hit : Edge → Option UnitVect3) {left : List Edge} → left ≡ [] → first_of (crossings_of hit left) ≡ answered []
 unfolding first_of crossings_of
-first_none_left hit = refl
+first_none_left hit e = rw e
+
+-- ---- a crossing that is the only one: what its test told is the answer
+
+answer_is : (t : Result (Option UnitVect3) Cause) → first_answer t ≡ and_then (answer_of t) (λ d. answered (listed d))
+answer_is (Ok None) = refl
+answer_is (Ok (Some p)) = refl
+answer_is (Err cause) = refl
+
+only_is : (c : Option UnitVect3) → first_of (listed c) ≡ and_then (tested_of c) (λ d. answered (listed d))
+unfolding first_of
+only_is None = refl
+only_is (Some p) = go (is_finite_unit p)
+  where
+    go : (b : Bool) → refuse_if (not b) 6 [] (answered (p ∷ [])) ≡ and_then (refuse_if (not b) 6 [] (answered (Some p))) (λ d. answered (listed d))
+    go true = refl
+    go false = refl
+
+pub only_tested : (t : Result (Option UnitVect3) Cause) (c : Option UnitVect3) → answer_of t ≡ tested_of c → first_answer t ≡ first_of (listed c)
+only_tested t c e = answer_is t ∙ rw (e, only_is c)

@@ -1,69 +1,92 @@
--- Laws of `fill` for a loop that has the crossing of each edge tested and stores it: its start, a turn, and what it answers.
-use Prim.Native.Nat.{ℕ, ◌+◌, ◌≤◌}
+-- Laws of `all_of` for a loop that has the crossing of each edge tested and stores it: its start, a turn, and what it answers.
+use Prim.Native.Nat.{ℕ, suc, ◌+◌, ◌-◌, ◌≤◌, ◌<◌}
 use native.Mathlib.Omega.{arith}
 use mathlib.Core.Path.{◌≡◌, refl, sym, ap, ◌∙◌}
-use mathlib.Core.List.{List, [], ◌∷◌}
-use lib.ListN.{length, set, length-set}
-use Rattle.std.specs.declared.result.Result.{Result}
-use Rattle.std.specs.declared.result.Result.TheVariants.{Ok, Err}
+use mathlib.Core.Bool.{Bool, true, false, not, ◌&&◌}
+use mathlib.Core.List.{List, [], ◌∷◌, ◌++◌, append_assoc, append-nil}
+use lib.ListN.{length, set, replicate, length-append}
+use lib.Seq.{set-append_seam}
 use Rattle.std.specs.declared.option.Option.{Option}
 use Rattle.std.specs.declared.option.Option.TheVariants.{None, Some}
+use Rattle.std.specs.declared.result.Result.{Result}
+use Rattle.std.specs.declared.result.Result.TheVariants.{Ok, Err}
 use Rattle.coo3d.specs.declared.UnitVect3.{UnitVect3}
+use Rattle.coo3d.specs.Vectors.{is_finite_unit}
 use Rattle.refusal.specs.declared.Cause.{Cause}
-use Rattle.refusal.specs.Answer.{Answer, answered, refused, and_then, answer_of}
+use Rattle.refusal.specs.Answer.{Answer, answered, refused, refused_for, refuse_if, and_then, answer_of}
+use Rattle.refusal.proofs.Answers.{never, then_answered, then_assoc, then_same}
+use Rattle.region.specs.declared.Edge.{Edge}
+use Rattle.crossings.specs.declared.Crossings.{Crossings}
 use Rattle.crossings.specs.declared.AllAnswer.{AllAnswer}
-use Rattle.crossings.specs.Crossings.{crossings_of, tested_of, all_of, zeros, list_of, Lists}
-use Rattle.crossings.proofs.First.{tested_refused}
-use Rattle.crossings.proofs.Fill.{fill, fill_none, fill_at, fill_refused, fill_done, fill_all, lists_done, lists_refused}
+use Rattle.crossings.specs.Crossings.{listed, crossings_of, tested_of, all_finite, all_of, zero3, list_of, Lists}
+use Rattle.crossings.proofs.Turns.{Turn}
 
--- a turn: the next edge of those that are left, and what the test of its crossing told
-pub record Turn {E : Type 0} (hit : E → Option UnitVect3) (left rest : List E) (t : Result (Option UnitVect3) Cause) : Type 0 where
-  pub edge : E
-  pub next : left ≡ edge ∷ rest
-  pub told : answer_of t ≡ tested_of (hit edge)
+-- the list, by the test of the first edge's crossing
+by_test : (c : Option UnitVect3) (rest : List UnitVect3) → all_of (listed c ++ rest) ≡ and_then (tested_of c) (λ d. and_then (all_of rest) (λ qs. answered (listed d ++ qs)))
+unfolding all_of all_finite
+by_test None rest = sym (then_answered (all_of rest))
+by_test (Some p) rest = go (is_finite_unit p) (all_finite rest)
+  where
+    go : (b d : Bool) → refuse_if (not (b && d)) 6 [] (answered (p ∷ rest)) ≡ and_then (refuse_if (not b) 6 [] (answered (Some p))) (λ c. and_then (refuse_if (not d) 6 [] (answered rest)) (λ qs. answered (listed c ++ qs)))
+    go true true = refl
+    go true false = refl
+    go false d = refl
 
-pub turned : {E : Type 0} {hit : E → Option UnitVect3} {left rest : List E} {t : Result (Option UnitVect3) Cause} {edge : E} {crossing : Option UnitVect3} → left ≡ edge ∷ rest → crossing ≡ hit edge → answer_of t ≡ tested_of crossing → Turn hit left rest t
-turned n c e = record { edge = _; next = n; told = e ∙ ap tested_of c }
+-- a point stored behind the others
+stored_behind : (ps : List UnitVect3) (p : UnitVect3) → length ps < 64 → record { points = set (list_of ps).points (list_of ps).len p; len = (list_of ps).len + 1 } ≡ list_of (ps ++ (p ∷ []))
+unfolding list_of
+stored_behind ps p h =
+    let e : 64 - length ps ≡ suc (64 - (length ps + 1)) = omega arith in
+    rw (e, set-append_seam ps zero3 (replicate (64 - (length ps + 1)) zero3) p, length-append, append_assoc)
 
-module _ {E : Type 0} {hit : E → Option UnitVect3} {left rest : List E} {t : Result (Option UnitVect3) Cause} (turn : Turn hit left rest t) (points : List UnitVect3) (len : ℕ) where
-  turn_none : t ≡ Ok None → fill hit points len rest ≡ fill hit points len left
-  turn_none e = sym (ap (fill hit points len) turn.next ∙ fill_none hit points len turn.edge rest (sym turn.told ∙ ap answer_of e))
+-- after i of the edges: the points so far, before those of the edges that are left
+pub record Gathered (hit : Edge → Option UnitVect3) (es left : List Edge) (found : Crossings) (i : ℕ) : Type 0 where
+  pub points : List UnitVect3
+  pub few : length points ≤ i
+  pub stored : found ≡ list_of points
+  pub same : all_of (crossings_of hit es) ≡ and_then (all_of (crossings_of hit left)) (λ qs. answered (points ++ qs))
 
-  turn_at : (p : UnitVect3) → t ≡ Ok (Some p) → fill hit (set points len p) (len + 1) rest ≡ fill hit points len left
-  turn_at p e = sym (ap (fill hit points len) turn.next ∙ fill_at hit points len turn.edge rest p (sym turn.told ∙ ap answer_of e))
+pub gathered_start : {hit : Edge → Option UnitVect3} {es left : List Edge} {found : Crossings} → found ≡ list_of [] → es ≡ left → Gathered hit es left found 0
+gathered_start {hit} {es} s e = record { points = []; few = omega arith; stored = s; same = sym (then_answered (all_of (crossings_of hit es))) ∙ rw e }
 
-  -- a crossing that is refused is refused as 6
-  turn_refused : (cause : Cause) → t ≡ Err cause → fill hit points len left ≡ refused 6 []
-  turn_refused cause e = ap (fill hit points len) turn.next ∙ fill_refused hit points len turn.edge rest 6 [] (tested_refused (hit turn.edge) _ _ (ap answer_of (sym e) ∙ turn.told))
+module _ {hit : Edge → Option UnitVect3} {es left : List Edge} {found : Crossings} {i : ℕ} (g : Gathered hit es left found i) where
+  pub gathered_len : found.len ≤ i
+  unfolding list_of
+  gathered_len = let e : found.len ≡ length g.points = ap (λ (c : Crossings). c.len) g.stored in omega (arith, g.few)
 
--- after i of the edges, with some left: the list so far, filled on with those, is what it comes to from the start
-pub record Gathered {E : Type 0} (hit : E → Option UnitVect3) (es left : List E) (points : List UnitVect3) (len i : ℕ) : Type 0 where
-  pub short : length es ≤ 64
-  pub few : len ≤ i
-  pub all : length points ≡ 64
-  pub same : fill hit points len left ≡ fill hit zeros 0 es
+  pub gathered_done : left ≡ [] → and_then (all_of (crossings_of hit es)) (λ ps. answered (list_of ps)) ≡ answered found
+  unfolding all_of all_finite crossings_of
+  gathered_done e = rw (g.same, e, append-nil, g.stored)
 
-length_zeros : length zeros ≡ 64
-unfolding zeros
-length_zeros = refl
+  module _ {rest : List Edge} {t : Result (Option UnitVect3) Cause} (turn : Turn hit left rest t) where
+    ahead : all_of (crossings_of hit left) ≡ and_then (answer_of t) (λ d. and_then (all_of (crossings_of hit rest)) (λ qs. answered (listed d ++ qs)))
+    unfolding crossings_of
+    ahead = rw (turn.next, turn.told, by_test (hit turn.edge) (crossings_of hit rest))
 
-pub gathered_start : {E : Type 0} {hit : E → Option UnitVect3} {es left : List E} {points : List UnitVect3} → length es ≤ 64 → points ≡ zeros → es ≡ left → Gathered hit es left points 0 0
-gathered_start s p e = record { short = s; few = omega arith; all = ap length p ∙ length_zeros; same = rw (p, e) }
+    pub gathered_refused : (cause : Cause) → t ≡ Err cause → all_of (crossings_of hit es) ≡ refused_for cause
+    gathered_refused cause e = rw (g.same, ahead, e)
 
-module _ {E : Type 0} {hit : E → Option UnitVect3} {es left rest : List E} {t : Result (Option UnitVect3) Cause} {points : List UnitVect3} {len i : ℕ} (turn : Turn hit left rest t) (g : Gathered hit es left points len i) {points' : List UnitVect3} {len' : ℕ} where
-  pub gathered_none : t ≡ Ok None → points' ≡ points → len' ≡ len → Gathered hit es rest points' len' (i + 1)
-  gathered_none e p n = record { short = g.short; few = omega (arith, n, g.few); all = ap length p ∙ g.all; same = rw (p, n) (turn_none turn points len e ∙ g.same) }
+    pub gathered_none : t ≡ Ok None → {found' : Crossings} → found' ≡ found → Gathered hit es rest found' (i + 1)
+    gathered_none e f = record { points = g.points; few = omega (arith, g.few); stored = f ∙ g.stored; same = rw (g.same, ahead, e, then_answered (all_of (crossings_of hit rest))) }
 
-  pub gathered_at : (p : UnitVect3) → t ≡ Ok (Some p) → points' ≡ set points len p → len' ≡ len + 1 → Gathered hit es rest points' len' (i + 1)
-  gathered_at q e p n = record { short = g.short; few = omega (arith, n, g.few); all = rw (p, length-set) g.all; same = rw (p, n) (turn_at turn points len q e ∙ g.same) }
+    pub gathered_at : (p : UnitVect3) → t ≡ Ok (Some p) → i < 64 → {found' : Crossings} → found' ≡ record { points = set found.points found.len p; len = found.len + 1 } → Gathered hit es rest found' (i + 1)
+    gathered_at p e below f =
+        let next = all_of (crossings_of hit rest) in
+        record {
+          points = g.points ++ (p ∷ []);
+          few = omega (arith, g.few, length-append g.points (p ∷ []));
+          stored = f ∙ rw g.stored (stored_behind g.points p (omega (arith, g.few)));
+          same = g.same ∙ rw (ahead, e) (then_assoc next (λ qs. answered (p ∷ qs)) (λ qs. answered (g.points ++ qs)) ∙ then_same next (λ qs. answered (g.points ++ (p ∷ qs))) (λ qs. answered ((g.points ++ (p ∷ [])) ++ qs)) (λ qs. rw append_assoc));
+        }
 
-module _ {E : Type 0} {hit : E → Option UnitVect3} {es left : List E} {points : List UnitVect3} {len i : ℕ} (g : Gathered hit es left points len i) (a : Answer (List UnitVect3)) (whole : all_of (crossings_of hit es) ≡ a) where
-  -- the answer is what the list so far comes to
-  comes_to : and_then a (λ qs. answered (list_of qs)) ≡ fill hit points len left
-  comes_to = ap (λ (x : Answer (List UnitVect3)). and_then x (λ qs. answered (list_of qs))) (sym whole) ∙ sym (fill_all hit es g.short) ∙ sym g.same
+-- ---- the answer
 
-  pub gathered_refused : {rest : List E} {t : Result (Option UnitVect3) Cause} → Turn hit left rest t → (cause : Cause) → t ≡ Err cause → (r : AllAnswer) → Lists r (refused 6 []) → Lists r a
-  gathered_refused turn cause e r h = lists_refused r a 6 [] (comes_to ∙ turn_refused turn points len cause e) h
+pub lists_done : (a : Answer (List UnitVect3)) (c : Crossings) → answered c ≡ and_then a (λ ps. answered (list_of ps)) → Lists (record { crossings = c; outcome = Ok tt }) a
+lists_done (answered ps) c e = record { outcome = refl; list = cc }
+lists_done (refused n vs) c e = never (sym e)
 
-  pub gathered_done : left ≡ [] → Lists (record { crossings = record { points = points; len = len }; outcome = (Ok tt) }) a
-  gathered_done e = lists_done a _ (comes_to ∙ ap (fill hit points len) e ∙ fill_done hit points len)
+pub lists_refused : (r : AllAnswer) (a : Answer (List UnitVect3)) (cause : Cause) → refused_for cause ≡ and_then a (λ ps. answered (list_of ps)) → Lists r (refused_for cause) → Lists r a
+lists_refused r (answered ps) cause e h = never e
+lists_refused r (refused n vs) cause e h =
+    let g : ◌≡◌ {A = Answer (List UnitVect3)} (refused_for cause) (refused n vs) = cc in
+    rw (sym g) h

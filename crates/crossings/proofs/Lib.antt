@@ -1,3 +1,3 @@
+pub mod Turns
 pub mod First
-pub mod Fill
 pub mod Gather

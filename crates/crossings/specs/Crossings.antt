@@ -1,21 +1,20 @@
 -- Answers of the queries: document 01, 'Queries'. An edge gives a crossing or none; a first answer is the first, an all-answer the list.
-use Rattle.std.specs.declared.result.Result.{Result}
-use Rattle.std.specs.declared.result.Result.TheVariants.{Ok, Err}
-use Rattle.std.specs.declared.option.Option.{Option}
-use Rattle.std.specs.declared.option.Option.TheVariants.{None, Some}
 use Rattle.refusal.specs.declared.Cause.{Cause}
-use Rattle.std.specs.Prelude.{◌-◌, ◌≡◌, Bool, true, false, not, ◌&&◌, List, [], ◌∷◌, ◌++◌, length, replicate}
+use Rattle.std.specs.Prelude.{Result, Ok, Err, ◌-◌, ◌≡◌, Bool, true, false, not, ◌&&◌, List, [], ◌∷◌, ◌++◌, length, replicate, Option, Some, None}
 use Rattle.coo3d.specs.declared.UnitVect3.{UnitVect3}
 use Rattle.coo3d.specs.Vectors.{is_finite_unit}
 use Rattle.float.specs.Doubles.{nought}
-use Rattle.refusal.specs.Answer.{Answer, answered, refused, refused_for, outcome_of, refuse_if, and_then}
+use Rattle.refusal.specs.Answer.{Answer, answered, refused, refused_for, answer_of, outcome_of, refuse_if, and_then}
+use Rattle.domain.specs.Checks.{with_count}
+use Rattle.region.specs.declared.Edge.{Edge}
+use Rattle.region.specs.View.{View, edges_of}
 use Rattle.crossings.specs.declared.Crossings.{Crossings}
 use Rattle.crossings.specs.declared.AllAnswer.{AllAnswer}
 
 -- a first answer holds no point, or one
 abbrev pub first_answer : Result (Option UnitVect3) Cause → Answer (List UnitVect3)
 first_answer (Ok None) = answered []
-first_answer (FIRSTAT p) = answered (p ∷ [])
+first_answer (Ok (Some p)) = answered (p ∷ [])
 first_answer (Err cause) = refused_for cause
 
 -- ---- the crossings of edges, in edge order
@@ -53,6 +52,14 @@ is_point (p ∷ ps) = true
 
 abbrev pub intersecting_of : Answer (List UnitVect3) → Answer Bool
 intersecting_of first = and_then first (λ ps. answered (is_point ps))
+
+-- ---- the crossings of a region's edges with a curve, which may have been refused: the count is tested first
+
+abbrev pub first_crossing_of : {C : Type 0} → (C → Edge → Option UnitVect3) → View → Result C Cause → Answer (List UnitVect3)
+first_crossing_of hit v curve = with_count v.count (and_then (answer_of curve) (λ c. first_of (crossings_of (hit c) (edges_of v))))
+
+abbrev pub all_crossings_of : {C : Type 0} → (C → Edge → Option UnitVect3) → View → Result C Cause → Answer (List UnitVect3)
+all_crossings_of hit v curve = with_count v.count (and_then (answer_of curve) (λ c. all_of (crossings_of (hit c) (edges_of v))))
 
 -- ---- a list by value
 

@@ -2,12 +2,16 @@
 // `intersect_` methods in src/sph_geom/mod.rs.
 #![tactic(auto)]
 
-ghost use Rattle.std.specs.Prelude.{◌≡◌};
-ghost use Rattle.refusal.specs.Answer.{refused_for, answer_of};
-ghost use Rattle.crossings.specs.Crossings.{zeros, tested_of, first_answer, intersecting_of, Lists};
+ghost use Rattle.std.specs.Prelude.{◌≡◌, Option, [], ◌<◌, ◌+◌, slice_set};
+ghost use Rattle.coo3d.specs.declared.UnitVect3.{UnitVect3};
+ghost use Rattle.refusal.specs.Answer.{answered, refused_for, answer_of, outcome_of, and_then};
+ghost use Rattle.region.specs.declared.Edge.{Edge};
+ghost use Rattle.region.specs.View.{view_of};
+ghost use Rattle.crossings.specs.Crossings.{zeros, list_of, tested_of, first_answer, intersecting_of, all_crossings_of, first_crossing_of, Lists};
 
-use coo3d::UnitVect3;
+use coo3d::{Coo3D, UnitVect3, Vect3};
 use refusal::Cause;
+use region::Region;
 
 // The first `len` points, in the order of their edges; the others are zero.
 #[derive(Clone, Copy)]
@@ -16,11 +20,38 @@ pub struct Crossings {
     pub len: usize,
 }
 
-// The list is empty where the call is refused.
+impl Crossings {
+    fn none() -> Crossings
+        ensures { result ≡ list_of [] }
+    {
+        Crossings {
+            points: no_points(),
+            len: 0,
+        }
+    }
+
+    fn push(&mut self, point: UnitVect3)
+        requires { self.old.len < 64 }
+        ensures { self.new ≡ record { points = slice_set self.old.points self.old.len point; len = self.old.len + 1 } }
+    {
+        self.points[self.len] = point;
+        self.len += 1;
+    }
+}
+
+// The list is empty where the call is refused. A struct: a `Result` that holds the array is copied once more, and a refused call promises the empty list.
 #[derive(Clone, Copy)]
 pub struct AllAnswer {
     pub crossings: Crossings,
     pub outcome: Result<(), Cause>,
+}
+
+// What an edge may cross: an arc, a great circle, a parallel.
+pub trait Curve {
+    ghost crossing_of: { Self → Edge → Option UnitVect3 };
+
+    fn crossing(&self, from: &Coo3D, to: &Coo3D, normal: &Vect3) -> Option<UnitVect3>
+        ensures { result ≡ crossing_of self.now (record { from = from.now; to = to.now; normal = normal.now }) };
 }
 
 pub fn no_points() -> [UnitVect3; 64]
@@ -36,9 +67,8 @@ pub fn no_points() -> [UnitVect3; 64]
 pub fn refused(cause: Cause) -> AllAnswer
     ensures { Lists result (refused_for cause) }
 {
-    let points = no_points();
     AllAnswer {
-        crossings: Crossings { points, len: 0 },
+        crossings: Crossings::none(),
         outcome: Err(cause),
     }
 }
@@ -62,9 +92,63 @@ pub fn test_finite(crossing: Option<UnitVect3>) -> Result<Option<UnitVect3>, Cau
 pub fn is_intersecting(first: Result<Option<UnitVect3>, Cause>) -> Result<bool, Cause>
     ensures { answer_of result ≡ intersecting_of (first_answer first) }
 {
-    match first {
-        Ok(Some(_)) => Ok(true),
-        Ok(None) => Ok(false),
-        Err(cause) => Err(cause),
+    Ok(first?.is_some())
+}
+
+// The first edge with a crossing decides. The count is tested, then the curve.
+pub fn first_crossing<C: Curve + Drop>(
+    r: &Region,
+    curve: Result<C, Cause>,
+) -> Result<Option<UnitVect3>, Cause>
+    ensures { first_answer result ≡ first_crossing_of C.crossing_of (view_of r.now) curve }
+{
+    let count = r.count;
+    domain::check_count(count)?;
+    let curve = curve?;
+    let mut from = &r.vertices[count - 1];
+    for i in 0..count {
+        let to = &r.vertices[i];
+        let crossing = curve.crossing(from, to, &r.cross_products[i]);
+        if let Some(point) = test_finite(crossing)? {
+            return Ok(Some(point));
+        }
+        from = to;
+    }
+    Ok(None)
+}
+
+fn collect<C: Curve + Drop>(
+    r: &Region,
+    curve: Result<C, Cause>,
+    found: &mut Crossings,
+) -> Result<(), Cause>
+    requires { found.old ≡ list_of [] }
+    ensures { outcome_of result found.new ≡ and_then (all_crossings_of C.crossing_of (view_of r.now) curve) (λ ps. answered (list_of ps)) }
+{
+    let count = r.count;
+    domain::check_count(count)?;
+    let curve = curve?;
+    let mut from = &r.vertices[count - 1];
+    for i in 0..count {
+        let to = &r.vertices[i];
+        let crossing = curve.crossing(from, to, &r.cross_products[i]);
+        if let Some(point) = test_finite(crossing)? {
+            found.push(point);
+        }
+        from = to;
+    }
+    Ok(())
+}
+
+pub fn all_crossings<C: Curve + Drop>(r: &Region, curve: Result<C, Cause>) -> AllAnswer
+    ensures { Lists result (all_crossings_of C.crossing_of (view_of r.now) curve) }
+{
+    let mut found = Crossings::none();
+    match collect(r, curve, &mut found) {
+        Ok(()) => AllAnswer {
+            crossings: found,
+            outcome: Ok(()),
+        },
+        Err(cause) => refused(cause),
     }
 }

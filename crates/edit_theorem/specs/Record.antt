@@ -3,7 +3,8 @@ use Rattle.std.specs.Prelude.{ℕ, Bool, true, false, not, cond, List, [], ◌�
 use Rattle.coo3d.specs.declared.Coo3D.{Coo3D}
 use Rattle.lists.specs.Cyclic.{ins, del, next_of, before_of}
 use Rattle.refusal.specs.Answer.{Answer, answered, refused}
-use Rattle.region.specs.Edges.{Edge, edge}
+use Rattle.region.specs.declared.Edge.{Edge}
+use Rattle.region.specs.Edges.{edge}
 use Rattle.region.specs.View.{View, made, nowhere, contained}
 use Rattle.region.specs.Poles.{rule_flag, fixed_rule}
 use Rattle.region.specs.Region.{build_of}

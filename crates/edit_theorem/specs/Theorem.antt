@@ -1,10 +1,7 @@
 -- The theorem over every list of edits. It speaks of the calls by nothing but their contracts.
-use Rattle.std.specs.declared.result.Result.{Result}
-use Rattle.std.specs.declared.result.Result.TheVariants.{Ok}
-use Rattle.std.specs.declared.option.Option.{Option}
 use Rattle.refusal.specs.declared.Cause.{Cause}
 use Rattle.coo3d.specs.declared.UnitVect3.{UnitVect3}
-use Rattle.std.specs.Prelude.{ℕ, ◌≡◌, true, false, List, [], ◌∷◌, ◌++◌, Float}
+use Rattle.std.specs.Prelude.{ℕ, ◌≡◌, Bool, true, false, List, [], ◌∷◌, ◌++◌, Float, Option, Result, Ok}
 use Rattle.coo3d.specs.declared.Coo3D.{Coo3D}
 use Rattle.coo3d.specs.declared.Vect3.{Vect3}
 use Rattle.domain.specs.Checks.{point_at, points_of}

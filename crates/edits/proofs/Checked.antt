@@ -6,24 +6,24 @@ use mathlib.Core.Logic.{⊎_elim}
 use mathlib.Core.Bool.{Bool, true, false, not, cond}
 use mathlib.Core.List.{List, []}
 use lib.Dec.{eqb, ltb, leb}
-use borrow.Author.Tests.{ltb-true, ltb-false, leb-true, leb-false, eqb-false, not-false, eq-eqb, ne_eqb, le-ltb, lt-ltb}
+use borrow.Author.Tests.{ltb-true, ltb-false, leb-true, leb-false, eq-eqb, ne_eqb, le-ltb, lt-ltb}
 use Rattle.std.specs.declared.result.Result.{Result}
 use Rattle.std.specs.declared.result.Result.TheVariants.{Ok, Err}
 use Rattle.std.specs.Prelude.{⊤}
+use Rattle.std.specs.Result.{MatchResult, IsOkAnd}
 use Rattle.coo3d.specs.declared.Coo3D.{Coo3D}
 use Rattle.domain.specs.Checks.{point_at, with_count}
-use Rattle.domain.proofs.Counts.{count_none, count_many, count_few}
 use Rattle.lists.proofs.Cyclic.{same_or_not}
-use Rattle.refusal.specs.Answer.{Answer, answered, refused, refused_for, refuse_if, and_then, outcome_of, answer_of}
+use Rattle.refusal.specs.Answer.{Answer, answered, refused, refused_for, refuse_if, and_then, answer_of}
 use Rattle.refusal.specs.declared.Cause.{Cause}
-use Rattle.refusal.proofs.Answers.{not_refused, passed, then_same, then_assoc}
+use Rattle.refusal.proofs.Answers.{not_refused, then_assoc}
 use Rattle.region.specs.declared.Region.{Region}
 use Rattle.region.specs.declared.ContainsSouthPoleMethod.{ContainsSouthPoleMethod}
 use Rattle.region.specs.View.{View, view_of, with_flag, contained}
 use Rattle.region.specs.Poles.{rule_flag}
 use Rattle.region.specs.Region.{rule_at, contains_of, flag_of}
 use Rattle.edits.specs.declared.EditAnswer.{EditAnswer}
-use Rattle.edits.specs.Edits.{Edit, put, insert, remove, turn, hold, rule, checked, changed, edit_of, Edited}
+use Rattle.edits.specs.Edits.{Edit, put, insert, turn, hold, rule, checked, changed, edit_of, Edited}
 
 -- ---- answers
 
@@ -43,57 +43,10 @@ module _ (e : Edit) (v : View) where
   unfolding edit_of
   done_by k w t is = rw (t, is)
 
--- ---- the count
-
-pub checked_none : (n : ℕ) (e : Edit) → n ≡ 0 → checked n e ≡ refused 2 []
-unfolding checked
-checked_none n (put i p) z = count_none n _ z
-checked_none n (insert i p) z = count_none n _ z
-checked_none n (remove i) z = count_none n _ z
-checked_none n turn z = count_none n _ z
-checked_none n (hold p) z = count_none n _ z
-checked_none n (rule m) z = count_none n _ z
-
-pub checked_many : (n : ℕ) (e : Edit) → (n ≡ 0 → ⊥) → 64 < n → checked n e ≡ refused 3 []
-unfolding checked
-checked_many n (put i p) z h = count_many n _ z h
-checked_many n (insert i p) z h = count_many n _ z h
-checked_many n (remove i) z h = count_many n _ z h
-checked_many n turn z h = count_many n _ z h
-checked_many n (hold p) z h = count_many n _ z h
-checked_many n (rule m) z h = count_many n _ z h
-
--- ---- then the rest, for 1 to 64 corners
-
-module _ (n : ℕ) (some : n ≡ 0 → ⊥) (few : n ≤ 64) where
-  pub turn_done : checked n turn ≡ answered turn
-  unfolding checked
-  turn_done = count_few n _ some few
-
-  module _ (i : ℕ) (several : n ≡ 1 → ⊥) where
-    pub remove_index : n ≤ i → checked n (remove i) ≡ refused 4 []
-    unfolding checked
-    remove_index h = rw (count_few n _ some few, ne_eqb n 1 several, le-ltb _ _ h)
-
-    pub remove_done : i < n → checked n (remove i) ≡ answered (remove i)
-    unfolding checked
-    remove_done h = rw (count_few n _ some few, ne_eqb n 1 several, lt-ltb i n h)
-
 -- ---- put and insert: the same tests of their corner, in the same order
 
 abbrev asked : ℕ → ℕ → Bool → Coo3D → Answer Coo3D
 asked n most there p = refuse_if (eqb n 0) 2 [] (refuse_if (ltb most n) 3 [] (refuse_if (not there) 4 [] (point_at 0 p)))
-
--- an answer says that each test let it pass
-asked_passed : (n most : ℕ) (there : Bool) (p q : Coo3D) → answered q ≡ asked n most there p → (0 < n) × ((n ≤ most) × (there ≡ true))
-asked_passed n most there p q e =
-    let a = passed (eqb n 0) 2 [] _ q (sym e) in
-    let b = passed (ltb most n) 3 [] _ q a.1 in
-    let c = passed (not there) 4 [] _ q b.1 in
-    (some n (eqb-false n 0 a.0), (ltb-false most n b.0, not-false there c.0))
-  where
-    some : (n : ℕ) → (n ≡ 0 → ⊥) → 0 < n
-    some n h = omega arith
 
 asked_then : (k : Coo3D → Edit) (none many away : Bool) (x : Answer Coo3D)
     → refuse_if none 2 [] (refuse_if many 3 [] (refuse_if away 4 [] (and_then x (λ q. answered (k q))))) ≡ and_then (refuse_if none 2 [] (refuse_if many 3 [] (refuse_if away 4 [] x))) (λ q. answered (k q))
@@ -106,12 +59,6 @@ module _ (n i : ℕ) (p : Coo3D) where
   pub put_asked : checked n (put i p) ≡ and_then (asked n 64 (ltb i n) p) (λ q. answered (put i q))
   unfolding checked
   put_asked = asked_then (put i) (eqb n 0) (ltb 64 n) (not (ltb i n)) (point_at 0 p)
-
-  pub put_inside : (q : Coo3D) → answered q ≡ asked n 64 (ltb i n) p → (0 < n) × ((n ≤ 64) × (i < n))
-  put_inside q e = let k = asked_passed n 64 (ltb i n) p q e in (k.0, (k.1.0, ltb-true i n k.1.1))
-
-  pub insert_inside : (q : Coo3D) → answered q ≡ asked n 63 (leb i n) p → (0 < n) × ((n ≤ 63) × (i ≤ n))
-  insert_inside q e = let k = asked_passed n 63 (leb i n) p q e in (k.0, (k.1.0, leb-true i n k.1.1))
 
   -- the 65th corner, and a count that never was one, are both 3
   full_too : (next : Answer Edit) → refuse_if (ltb 64 n) 3 [] (refuse_if (eqb n 64) 3 [] next) ≡ refuse_if (ltb 63 n) 3 [] next
@@ -152,16 +99,7 @@ module _ (k : Coo3D → Edit) {x : Answer Coo3D} {t : Answer Edit} (table : t �
   pub asked_done : (q : Coo3D) → answered q ≡ x → t ≡ answered (k q)
   asked_done q is = table ∙ ap (λ (y : Answer Coo3D). and_then y (λ p. answered (k p))) (sym is)
 
--- no corner, and the only corner, are both 2
-pub remove_few : (n i : ℕ) → n ≤ 1 → checked n (remove i) ≡ refused 2 []
-unfolding checked
-remove_few n i h =
-    ⊎_elim
-    (λ (e : n ≡ 0). count_none n _ e)
-    (λ (e : n ≡ 0 → ⊥). let one : n ≡ 1 = omega arith in let few : n ≤ 64 = omega arith in rw (count_few n _ e few, eq-eqb n 1 one))
-    (same_or_not n 0)
-
--- ---- hold and rule, from what the region answers
+-- ---- turn, hold and rule: the flag is set from what the check or the region answers
 
 module _ {A : Type 0} (v : View) (k : A → Edit) (of : A → Bool) (flag : Bool → Bool) (same : (a : A) → changed (k a) v ≡ with_flag v (flag (of a))) where
   by_flag : (n : ℕ) (x : Answer A) → and_then (with_count n (and_then x (λ a. answered (k a)))) (λ e. answered (changed e v)) ≡ and_then (with_count n (and_then x (λ a. answered (of a)))) (λ b. answered (with_flag v (flag b)))
@@ -174,46 +112,28 @@ module _ {A : Type 0} (v : View) (k : A → Edit) (of : A → Bool) (flag : Bool
       go false false (refused number values) = refl
 
 module _ (v : View) where
-  hold_by : (p : Coo3D) → edit_of (hold p) v ≡ and_then (contains_of v p) (λ b. answered (with_flag v (cond b v.flag (not v.flag))))
-  unfolding edit_of checked contains_of changed
-  hold_by p = by_flag v hold (λ q. contained q v) (λ b. cond b v.flag (not v.flag)) (λ q. refl) v.count (point_at 0 p)
+  pub turn_by : edit_of turn v ≡ and_then (and_then {A = ⊤} (with_count v.count (answered tt)) (λ a. answered (not v.flag))) (λ b. answered (with_flag v b))
+  unfolding edit_of checked changed
+  turn_by = go (eqb v.count 0) (ltb 64 v.count)
+    where
+      go : (none many : Bool) → and_then (refuse_if none 2 [] (refuse_if many 3 [] (answered turn))) (λ e. answered (changed e v)) ≡ and_then (and_then {A = ⊤} (refuse_if none 2 [] (refuse_if many 3 [] (answered tt))) (λ a. answered (not v.flag))) (λ b. answered (with_flag v b))
+      go true many = refl
+      go false true = refl
+      go false false = refl
 
-  rule_by : (m : ContainsSouthPoleMethod) → edit_of (rule m) v ≡ and_then (flag_of v m) (λ b. answered (with_flag v b))
+  pub hold_by : (p : Coo3D) → edit_of (hold p) v ≡ and_then (and_then (contains_of v p) (λ b. answered (cond b v.flag (not v.flag)))) (λ b. answered (with_flag v b))
+  unfolding edit_of checked contains_of changed
+  hold_by p =
+      by_flag v hold (λ q. contained q v) (λ b. cond b v.flag (not v.flag)) (λ q. refl) v.count (point_at 0 p)
+      ∙ sym (then_assoc (contains_of v p) (λ b. answered (cond b v.flag (not v.flag))) (λ b. answered (with_flag v b)))
+
+  pub rule_by : (m : ContainsSouthPoleMethod) → edit_of (rule m) v ≡ and_then (flag_of v m) (λ b. answered (with_flag v b))
   unfolding edit_of checked flag_of changed
   rule_by m = by_flag v rule (λ k. rule_flag k v) (λ b. b) (λ k. refl) v.count (rule_at v.count m)
 
-  -- what `flagged` answers by the region's decision is what the edit does
-  pub hold_flagged : (p : Coo3D) (d : Result Bool Cause) → answer_of d ≡ contains_of v p → and_then (answer_of d) (λ b. answered (with_flag v (cond b v.flag (not v.flag)))) ≡ edit_of (hold p) v
-  hold_flagged p d e = rw (hold_by p, e)
-
-  pub rule_flagged : (m : ContainsSouthPoleMethod) (d : Result Bool Cause) → answer_of d ≡ flag_of v m → and_then (answer_of d) (λ b. answered (with_flag v (cond b true false))) ≡ edit_of (rule m) v
-  rule_flagged m d e = ap (λ (x : Answer Bool). and_then x (λ b. answered (with_flag v (cond b true false)))) e ∙ then_same (flag_of v m) _ _ same ∙ sym (rule_by m)
-    where
-      same : (b : Bool) → ◌≡◌ {A = Answer View} (answered (with_flag v (cond b true false))) (answered (with_flag v b))
-      same true = refl
-      same false = refl
-
--- ---- a flag by a decision
-
-pub flag_set : (d : Result Bool Cause) (in-it out-of-it old b : Bool) → answer_of d ≡ answered b
-    → (answered (cond b in-it out-of-it) ≡ and_then (answer_of d) (λ k. answered (cond k in-it out-of-it))) × ((cause : Cause) → (Ok tt) ≡ Err cause → cond b in-it out-of-it ≡ old)
-flag_set d in-it out-of-it old b e = (rw e, λ cause q. not_refused cause q)
-
-pub flag_kept : (d : Result Bool Cause) (in-it out-of-it old : Bool) (cause : Cause) → answer_of d ≡ refused_for cause
-    → (refused_for cause ≡ and_then (answer_of d) (λ k. answered (cond k in-it out-of-it))) × ((k : Cause) → Err cause ≡ Err k → old ≡ old)
-flag_kept d in-it out-of-it old cause e = (rw e, λ k q. refl)
-
--- and so it is beside the view that has the flag
-pub view_flagged : (v : View) (d : Result Bool Cause) (in-it out-of-it : Bool) (o : Result ⊤ Cause) (flag : Bool) → outcome_of o flag ≡ and_then (answer_of d) (λ k. answered (cond k in-it out-of-it))
-    → outcome_of o (with_flag v flag) ≡ and_then (answer_of d) (λ k. answered (with_flag v (cond k in-it out-of-it)))
-view_flagged v d in-it out-of-it o flag e = beside o ∙ ap (λ (x : Answer Bool). and_then x put_in) e ∙ then_assoc (answer_of d) (λ k. answered (cond k in-it out-of-it)) put_in
-  where
-    put_in : Bool → Answer View
-    put_in k = answered (with_flag v k)
-
-    beside : (x : Result ⊤ Cause) → outcome_of x (with_flag v flag) ≡ and_then (outcome_of x flag) put_in
-    beside (Ok tt) = refl
-    beside (Err cause) = refl
-
-pub flag_back : (r : Region) (flag : Bool) → flag ≡ r.contains_south_pole → record { vertices = r.vertices; cross_products = r.cross_products; count = r.count; contains_south_pole = flag; seam_count = r.seam_count } ≡ r
-flag_back r flag e = rw e
+-- an answer whose result a closure goes over
+pub mapped : {A B : Type 0} (d : Result A Cause) (e : Result B Cause) (post : A → B → Type 0) (f : A → B) → MatchResult d (λ a. IsOkAnd e (post a)) (λ cause. e ≡ Err cause) → ((a : A) (b : B) → post a b → b ≡ f a)
+    → answer_of e ≡ and_then (answer_of d) (λ a. answered (f a))
+mapped (Ok a) (Ok b) post f m h = ap answered (h a b m)
+mapped (Ok a) (Err cause) post f m h = absurd m
+mapped (Err cause) e post f m h = ap answer_of m

@@ -1,4 +1,3 @@
 pub mod Checked
 pub mod Moved
-pub mod PutAt
-pub mod Seams
+pub mod Neighbours

@@ -1,10 +1,7 @@
--- Telling a NaN: by its difference from itself, and by its pattern.
-use mathlib.Core.Path.{◌≡◌, refl, sym, ◌∙◌}
-use mathlib.Core.Bool.{true, false, not, true≢false}
-use lib.Dec.{T}
-use lib.Ieee.{Float, nan, inf, fin, is_nan, of_bits, ne, div}
-use lib.Ieee.Compare.{nan_differs}
-use Rattle.float.specs.Doubles.{nought, ◌⊘◌}
+-- Telling a NaN, and its pattern.
+use mathlib.Core.Path.{◌≡◌, refl}
+use mathlib.Core.Bool.{true}
+use lib.Ieee.{Float, nan, inf, fin, binary64, is_nan, of_bits}
 
 pub is_nan_lem : (x : Float) → is_nan x ≡ true → x ≡ nan
 unfolding is_nan
@@ -12,14 +9,7 @@ is_nan_lem nan e = refl
 is_nan_lem (inf s) e = cc
 is_nan_lem (fin s m k) e = cc
 
--- a double that equals itself is no NaN
-pub not_nan : (x : Float) → ne x x ≡ false → T (not (is_nan x))
-unfolding is_nan
-not_nan nan h = absurd (true≢false (sym nan_differs ∙ h))
-not_nan (inf s) h = tt
-not_nan (fin s m e) h = tt
-
--- 0 / 0
-pub nan_made : nought ⊘ nought ≡ nan
-unfolding div of_bits
-nan_made = refl
+-- the pattern of `f64::NAN`
+pub nan_read : of_bits binary64 0x7FF8_0000_0000_0000 ≡ nan
+unfolding of_bits
+nan_read = refl

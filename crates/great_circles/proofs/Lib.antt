@@ -1,3 +1,3 @@
-pub mod Checked
 pub mod Head
-pub mod Passing
+pub mod Numbers
+pub mod Given

@@ -9,7 +9,7 @@ use Rattle.coo3d.specs.declared.UnitVect3.{UnitVect3}
 use Rattle.coo3d.specs.Vectors.{vect_of_point, vect_of_unit, dot_of, normalized_of}
 use Rattle.float.specs.Doubles.{◌⊖◌, ◌⊗◌, nought, pi, abs_of}
 use Rattle.lists.specs.Counts.{exactly_one}
-use Rattle.region.specs.Edges.{Edge}
+use Rattle.region.specs.declared.Edge.{Edge}
 
 -- two points by longitude
 unfoldable pub west_of : Coo3D → Coo3D → Coo3D

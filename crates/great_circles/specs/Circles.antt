@@ -6,7 +6,7 @@ use Rattle.std.specs.Float.Ieee.{lt}
 use Rattle.coo3d.specs.declared.Vect3.{Vect3}
 use Rattle.coo3d.specs.declared.UnitVect3.{UnitVect3}
 use Rattle.coo3d.specs.Vectors.{vect_of_point, vect_of_unit, dot_of, cross_of, normalized_of, unit_opposite_of}
-use Rattle.region.specs.Edges.{Edge}
+use Rattle.region.specs.declared.Edge.{Edge}
 
 -- the edge's ends are nearer to the point than to each other
 unfoldable pub is_beyond : UnitVect3 → Vect3 → Vect3 → Bool

@@ -7,6 +7,8 @@ use Rattle.crossings.specs.Crossings.{crossings_of, first_of, all_of, intersecti
 use Rattle.domain.specs.Checks.{point_at, vector_at, with_count}
 use Rattle.refusal.specs.Answer.{Answer, answered, and_then}
 use Rattle.region.specs.View.{View, edges_of}
+use Rattle.great_circles.specs.declared.Arc.{Arc}
+use Rattle.great_circles.specs.declared.GreatCircle.{GreatCircle}
 use Rattle.great_circles.specs.Arcs.{west_of, east_of, arc_crossing}
 use Rattle.great_circles.specs.Circles.{circle_crossing}
 
@@ -17,6 +19,13 @@ arc_crossings v a b = crossings_of (arc_crossing (west_of a b) (east_of a b)) (e
 -- the count is tested, then a, which is 0, and b, which is 1
 abbrev pub with_arc : {A : Type 0} → ℕ → Coo3D → Coo3D → (Coo3D → Coo3D → Answer A) → Answer A
 with_arc count a b next = with_count count (and_then (point_at 0 a) (λ p. and_then (point_at 1 b) (λ q. next p q)))
+
+-- an arc that is given by two points, and a great circle by its normal
+abbrev pub arc_at : Coo3D → Coo3D → Answer Arc
+arc_at a b = and_then (point_at 0 a) (λ p. and_then (point_at 1 b) (λ q. answered (record { west = west_of p q; east = east_of p q })))
+
+abbrev pub circle_at : Vect3 → Answer GreatCircle
+circle_at n = and_then (vector_at 0 n) (λ m. answered (record { n = m }))
 
 unfoldable pub arc_first_of : View → Coo3D → Coo3D → Answer (List UnitVect3)
 arc_first_of v a b = with_arc v.count a b (λ p q. first_of (arc_crossings v p q))

@@ -7,33 +7,44 @@ ghost use Rattle.coo3d.specs.Vectors.{dot_of};
 ghost use Rattle.refusal.specs.Answer.{answer_of};
 ghost use Rattle.region.specs.View.{view_of};
 ghost use Rattle.crossings.specs.Crossings.{first_answer, Lists};
-ghost use Rattle.great_circles.specs.Arcs.{west_of, east_of, overlap_in_lon, intersect_point, in_edge};
+ghost use Rattle.great_circles.specs.Arcs.{west_of, east_of, overlap_in_lon, intersect_point, in_edge, arc_crossing};
 ghost use Rattle.great_circles.specs.Circles.{is_beyond, circle_crossing};
-ghost use Rattle.great_circles.specs.Queries.{arc_first_of, arc_all_of, is_intersecting_arc, circle_all_of};
+ghost use Rattle.great_circles.specs.Queries.{arc_at, circle_at, arc_first_of, arc_all_of, is_intersecting_arc, circle_all_of};
 
 use coo3d::{Coo3D, UnitVect3, Vect3};
-use crossings::{AllAnswer, Crossings};
+use crossings::{AllAnswer, Curve};
 use refusal::Cause;
 use region::Region;
 
-// Of two points, the one with the lower longitude, and the other.
-fn west_of(a: Coo3D, b: Coo3D) -> Coo3D
-    ensures { result ≡ west_of a b }
-{
-    if a.lon > b.lon { b } else { a }
+// An arc, by its ends.
+#[derive(Clone, Copy)]
+struct Arc {
+    west: Coo3D,
+    east: Coo3D,
 }
 
-fn east_of(a: Coo3D, b: Coo3D) -> Coo3D
-    ensures { result ≡ east_of a b }
-{
-    if a.lon > b.lon { a } else { b }
+// A great circle, by its normal.
+#[derive(Clone, Copy)]
+struct GreatCircle {
+    n: Vect3,
 }
 
-// Of two longitudes the lower one, which is `west_of`'s; `float::max` has the other.
-fn lower_lon(a: f64, b: f64) -> f64
-    ensures { result ≡ cond (lt b a) b a }
+// Two points by longitude.
+fn by_longitude(a: Coo3D, b: Coo3D) -> Arc
+    ensures { result ≡ record { west = west_of a b; east = east_of a b } }
 {
-    if a > b { b } else { a }
+    if a.lon > b.lon {
+        Arc { west: b, east: a }
+    } else {
+        Arc { west: a, east: b }
+    }
+}
+
+// Two longitudes, the lower one first.
+fn in_order(a: f64, b: f64) -> (f64, f64)
+    ensures { result ≡ (cond (lt b a) b a, cond (lt b a) a b) }
+{
+    if a > b { (b, a) } else { (a, b) }
 }
 
 // `great_circle_arcs_are_overlapping_in_lon`, by the longitudes of two arcs, the lower one of each first.
@@ -53,18 +64,6 @@ fn are_overlapping_in_lon(a: f64, b: f64, pa: f64, pb: f64) -> bool
     }
 }
 
-// `normalized_intersect_point`
-fn normalized_intersect_point(a: Coo3D, b: Coo3D, ua: f64, ub: f64) -> UnitVect3
-    ensures { result ≡ intersect_point a b ua ub }
-{
-    let v = Vect3 {
-        x: ub * a.x - ua * b.x,
-        y: ub * a.y - ua * b.y,
-        z: ub * a.z - ua * b.z,
-    };
-    v.normalized()
-}
-
 // The point, where it lies on the edge between pa and pb or opposite to it.
 fn in_edge(i: UnitVect3, pa: Coo3D, pb: Coo3D) -> Option<UnitVect3>
     ensures { result ≡ in_edge i pa pb }
@@ -82,13 +81,6 @@ fn in_edge(i: UnitVect3, pa: Coo3D, pb: Coo3D) -> Option<UnitVect3>
     }
 }
 
-// `intersect_point_in_polygon_great_circle_arc`, with the edge's ends in either order.
-fn point_in_edge(a: Coo3D, b: Coo3D, from: Coo3D, to: Coo3D, ua: f64, ub: f64) -> Option<UnitVect3>
-    ensures { result ≡ in_edge (intersect_point a b ua ub) from to }
-{
-    in_edge(normalized_intersect_point(a, b, ua, ub), from, to)
-}
-
 // Whether both ends of the edge are nearer to the point than to each other.
 fn is_beyond(i: UnitVect3, pa: Vect3, pb: Vect3, papb: f64) -> bool
     requires { papb ≡ dot_of pa pb }
@@ -98,150 +90,88 @@ fn is_beyond(i: UnitVect3, pa: Vect3, pb: Vect3, papb: f64) -> bool
     (coo3d::dot_product(pa, v) > papb) & (coo3d::dot_product(pb, v) > papb)
 }
 
-fn circle_crossing(n: Vect3, from: Coo3D, to: Coo3D, normal: Vect3) -> Option<UnitVect3>
-    ensures { result ≡ circle_crossing n (record { from = from; to = to; normal = normal }) }
-{
-    let pa = from.to_vect3();
-    let pb = to.to_vect3();
-    let papb = coo3d::dot_product(pa, pb);
-    let v = coo3d::cross_product(normal, n);
-    let i = v.normalized();
-    if is_beyond(i, pa, pb, papb) {
-        return Some(i);
+impl Arc {
+    fn new(a: Coo3D, b: Coo3D) -> Result<Arc, Cause>
+        ensures { answer_of result ≡ arc_at a b }
+    {
+        let p = domain::check_point(a, 0)?;
+        let q = domain::check_point(b, 1)?;
+        Ok(by_longitude(p, q))
     }
-    let o = i.opposite();
-    if is_beyond(o, pa, pb, papb) {
-        Some(o)
-    } else {
+
+    // `normalized_intersect_point`, by the heights of the arc's ends over the edge's plane.
+    fn intersect_point(&self, ua: f64, ub: f64) -> UnitVect3
+        ensures { result ≡ intersect_point self.now.west self.now.east ua ub }
+    {
+        let a = self.west;
+        let b = self.east;
+        let v = Vect3 {
+            x: ub * a.x - ua * b.x,
+            y: ub * a.y - ua * b.y,
+            z: ub * a.z - ua * b.z,
+        };
+        v.normalized()
+    }
+}
+
+impl Curve for Arc {
+    ghost crossing_of = { λ arc e. arc_crossing arc.west arc.east e };
+
+    // The edge's ends count in either order. Inlined into the loops, which else call it for each edge.
+    #[inline(always)]
+    fn crossing(&self, from: &Coo3D, to: &Coo3D, normal: &Vect3) -> Option<UnitVect3> {
+        let (lower, higher) = in_order(from.lon, to.lon);
+        if are_overlapping_in_lon(self.west.lon, self.east.lon, lower, higher) {
+            let ua = coo3d::dot_product(self.west.to_vect3(), *normal);
+            let ub = coo3d::dot_product(self.east.to_vect3(), *normal);
+            if (ua > 0.0) != (ub > 0.0) {
+                return in_edge(self.intersect_point(ua, ub), *from, *to);
+            }
+        }
         None
     }
 }
 
-// The longitudes and the sides of the arc's ends are tested on numbers, in the loop: only an edge that passes hands its points on.
+impl GreatCircle {
+    fn new(n: Vect3) -> Result<GreatCircle, Cause>
+        ensures { answer_of result ≡ circle_at n }
+    {
+        let m = domain::check_vector(n, 0)?;
+        Ok(GreatCircle { n: m })
+    }
+}
+
+impl Curve for GreatCircle {
+    ghost crossing_of = { λ circle e. circle_crossing circle.n e };
+
+    fn crossing(&self, from: &Coo3D, to: &Coo3D, normal: &Vect3) -> Option<UnitVect3> {
+        let pa = from.to_vect3();
+        let pb = to.to_vect3();
+        let papb = coo3d::dot_product(pa, pb);
+        let v = coo3d::cross_product(*normal, self.n);
+        let i = v.normalized();
+        if is_beyond(i, pa, pb, papb) {
+            return Some(i);
+        }
+        let o = i.opposite();
+        if is_beyond(o, pa, pb, papb) {
+            Some(o)
+        } else {
+            None
+        }
+    }
+}
+
 pub fn intersect_great_circle_arc(r: Region, a: Coo3D, b: Coo3D) -> Result<Option<UnitVect3>, Cause>
     ensures { first_answer result ≡ arc_first_of (view_of r) a b }
 {
-    let count = r.count;
-    if count == 0 {
-        return Err(Cause::NoPoint);
-    }
-    if count > 64 {
-        return Err(Cause::TooManyPoints);
-    }
-    let Ok(p) = domain::check_point(a, 0) else {
-        return Err(Cause::OutsideDomain(0));
-    };
-    let Ok(q) = domain::check_point(b, 1) else {
-        return Err(Cause::OutsideDomain(1));
-    };
-    let west = west_of(p, q);
-    let east = east_of(p, q);
-    let a_vect = west.to_vect3();
-    let b_vect = east.to_vect3();
-    let vertices = r.vertices;
-    let normals = r.cross_products;
-    let mut before = count - 1;
-    let last = vertices[before];
-    let mut from_lon = last.lon;
-    let mut i: usize = 0;
-    while i < count {
-        let to = vertices[i];
-        let n = normals[i];
-        let to_lon = to.lon;
-        if are_overlapping_in_lon(
-            west.lon,
-            east.lon,
-            lower_lon(from_lon, to_lon),
-            float::max(to_lon, from_lon),
-        ) {
-            let ua = coo3d::dot_product(a_vect, n);
-            let ub = coo3d::dot_product(b_vect, n);
-            if (ua > 0.0) != (ub > 0.0) {
-                let from = vertices[before];
-                let Ok(c) = crossings::test_finite(point_in_edge(
-                    west, east, from, to, ua, ub,
-                )) else {
-                    return Err(Cause::NotFinite);
-                };
-                match c {
-                    Some(point) => {
-                        return Ok(Some(point));
-                    }
-                    None => {}
-                }
-            }
-        }
-        from_lon = to_lon;
-        before = i;
-        i += 1;
-    }
-    Ok(None)
+    crossings::first_crossing(&r, Arc::new(a, b))
 }
 
 pub fn intersect_great_circle_arc_all(r: Region, a: Coo3D, b: Coo3D) -> AllAnswer
     ensures { Lists result (arc_all_of (view_of r) a b) }
 {
-    let count = r.count;
-    if count == 0 {
-        return crossings::refused(Cause::NoPoint);
-    }
-    if count > 64 {
-        return crossings::refused(Cause::TooManyPoints);
-    }
-    let Ok(p) = domain::check_point(a, 0) else {
-        return crossings::refused(Cause::OutsideDomain(0));
-    };
-    let Ok(q) = domain::check_point(b, 1) else {
-        return crossings::refused(Cause::OutsideDomain(1));
-    };
-    let west = west_of(p, q);
-    let east = east_of(p, q);
-    let a_vect = west.to_vect3();
-    let b_vect = east.to_vect3();
-    let vertices = r.vertices;
-    let normals = r.cross_products;
-    let mut points = crossings::no_points();
-    let mut len: usize = 0;
-    let mut before = count - 1;
-    let last = vertices[before];
-    let mut from_lon = last.lon;
-    let mut i: usize = 0;
-    while i < count {
-        let to = vertices[i];
-        let n = normals[i];
-        let to_lon = to.lon;
-        if are_overlapping_in_lon(
-            west.lon,
-            east.lon,
-            lower_lon(from_lon, to_lon),
-            float::max(to_lon, from_lon),
-        ) {
-            let ua = coo3d::dot_product(a_vect, n);
-            let ub = coo3d::dot_product(b_vect, n);
-            if (ua > 0.0) != (ub > 0.0) {
-                let from = vertices[before];
-                let Ok(c) = crossings::test_finite(point_in_edge(
-                    west, east, from, to, ua, ub,
-                )) else {
-                    return crossings::refused(Cause::NotFinite);
-                };
-                match c {
-                    Some(point) => {
-                        points[len] = point;
-                        len += 1;
-                    }
-                    None => {}
-                }
-            }
-        }
-        from_lon = to_lon;
-        before = i;
-        i += 1;
-    }
-    AllAnswer {
-        crossings: Crossings { points, len },
-        outcome: Ok(()),
-    }
+    crossings::all_crossings(&r, Arc::new(a, b))
 }
 
 pub fn is_intersecting_great_circle_arc(r: Region, a: Coo3D, b: Coo3D) -> Result<bool, Cause>
@@ -254,40 +184,5 @@ pub fn is_intersecting_great_circle_arc(r: Region, a: Coo3D, b: Coo3D) -> Result
 pub fn intersect_great_circle_all(r: Region, n: Vect3) -> AllAnswer
     ensures { Lists result (circle_all_of (view_of r) n) }
 {
-    let count = r.count;
-    if count == 0 {
-        return crossings::refused(Cause::NoPoint);
-    }
-    if count > 64 {
-        return crossings::refused(Cause::TooManyPoints);
-    }
-    let Ok(m) = domain::check_vector(n, 0) else {
-        return crossings::refused(Cause::OutsideDomain(0));
-    };
-    let mut points = crossings::no_points();
-    let mut len: usize = 0;
-    let last = count - 1;
-    let mut from = r.vertices[last];
-    let mut i: usize = 0;
-    while i < count {
-        let to = r.vertices[i];
-        let normal = r.cross_products[i];
-        let Ok(c) = crossings::test_finite(circle_crossing(m, from, to, normal))
-        else {
-            return crossings::refused(Cause::NotFinite);
-        };
-        match c {
-            Some(point) => {
-                points[len] = point;
-                len += 1;
-            }
-            None => {}
-        }
-        from = to;
-        i += 1;
-    }
-    AllAnswer {
-        crossings: Crossings { points, len },
-        outcome: Ok(()),
-    }
+    crossings::all_crossings(&r, GreatCircle::new(n))
 }

@@ -1,7 +1,6 @@
 -- The ways in which a region is made: built, read, edited in any list. It speaks of the calls by nothing but their contracts. The numbers handed in are
 -- doubles, as the code's types have them.
-use Rattle.std.specs.declared.result.Result.TheVariants.{Ok}
-use Rattle.std.specs.Prelude.{ℕ, ◌≡◌, true, List, take}
+use Rattle.std.specs.Prelude.{ℕ, ◌≡◌, true, List, take, Ok}
 use Rattle.coo3d.specs.declared.Coo3D.{Coo3D}
 use Rattle.coo3d.specs.Points.{are_doubles}
 use Rattle.edit_theorem.specs.Doubles.{edits_of_doubles}

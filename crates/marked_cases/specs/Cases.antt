@@ -11,7 +11,8 @@ use Rattle.float.specs.Doubles.{nought, half, one, pi}
 use Rattle.parallels.specs.Queries.{parallel_first_of, parallel_all_of}
 use Rattle.refusal.specs.Answer.{Answer, answered, and_then}
 use Rattle.region.specs.declared.ContainsSouthPoleMethod.TheVariants.{Default, ContainsSouthPole}
-use Rattle.region.specs.Edges.{Edge, in_lon_range, is_in_range, is_counted}
+use Rattle.region.specs.declared.Edge.{Edge}
+use Rattle.region.specs.Edges.{in_lon_range, is_in_range, is_counted}
 use Rattle.region.specs.View.{View, edges_of, made}
 use Rattle.region.specs.Region.{build_of, contains_of}
 use Rattle.region_file.specs.File.{file_of}

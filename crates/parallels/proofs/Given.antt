@@ -1,21 +1,20 @@
--- Laws of `with_parallel`, for the calls that test the count and then the parallel that they are given.
-use Prim.Native.Nat.{◌≤◌}
-use mathlib.Core.Path.{◌≡◌, sym, ap, ◌∙◌}
+-- What the queries' answers come to by the parallel that they were given.
+use mathlib.Core.Path.{◌≡◌, refl, ap, ◌∙◌}
 use mathlib.Core.Bool.{Bool, true, false, not}
 use mathlib.Core.List.{[]}
 use lib.Ieee.{Float}
-use Rattle.domain.proofs.Counts.{count_few}
-use Rattle.refusal.specs.Answer.{Answer, refused, refuse_if}
-use Rattle.region.specs.View.{View}
+use Rattle.std.specs.declared.result.Result.{Result}
+use Rattle.domain.specs.Checks.{with_count}
+use Rattle.refusal.specs.declared.Cause.{Cause}
+use Rattle.refusal.specs.Answer.{Answer, answered, refuse_if, and_then, answer_of}
+use Rattle.parallels.specs.declared.Parallel.{Parallel}
 use Rattle.parallels.specs.Parallels.{is_parallel}
-use Rattle.parallels.specs.Queries.{with_parallel}
+use Rattle.parallels.specs.Queries.{parallel_at, with_parallel}
+use Rattle.region.specs.View.{View}
 
-module _ {A : Type 0} (v : View) (lat sin cos : Float) (next : Answer A) (some : v.count ≡ 0 → ⊥) (few : v.count ≤ 64) (b : Bool) (told : b ≡ is_parallel lat sin cos) where
-  tested : with_parallel v lat sin cos next ≡ refuse_if (not b) 5 [] next
-  tested = count_few v.count _ some few ∙ ap (λ (x : Bool). refuse_if (not x) 5 [] next) (sym told)
+tested : {A : Type 0} (b : Bool) (p : Parallel) (next : Parallel → Answer A) → and_then (refuse_if (not b) 5 [] (answered p)) next ≡ refuse_if (not b) 5 [] (next p)
+tested true p next = refl
+tested false p next = refl
 
-  pub parallel_refused : not b ≡ true → with_parallel v lat sin cos next ≡ refused 5 []
-  parallel_refused h = tested ∙ ap (λ (x : Bool). refuse_if x 5 [] next) h
-
-  pub parallel_passed : not b ≡ false → with_parallel v lat sin cos next ≡ next
-  parallel_passed h = tested ∙ ap (λ (x : Bool). refuse_if x 5 [] next) h
+pub given_parallel : {A : Type 0} (v : View) (lat sin cos : Float) (given : Result Parallel Cause) (next : Parallel → Answer A) → answer_of given ≡ parallel_at lat sin cos → with_count v.count (and_then (answer_of given) next) ≡ with_parallel v lat sin cos (next (record { lat = lat; sin = sin; cos = cos }))
+given_parallel v lat sin cos given next e = ap (with_count v.count) (ap (λ (x : Answer Parallel). and_then x next) e ∙ tested (is_parallel lat sin cos) (record { lat = lat; sin = sin; cos = cos }) next)

@@ -2,14 +2,12 @@
 use Prim.Native.Nat.{ℕ, ◌+◌, ◌*◌, ◌≤◌}
 use native.Mathlib.Omega.{arith}
 use mathlib.Core.Path.{◌≡◌, refl, sym, ◌∙◌}
-use mathlib.Core.Bool.{Bool, true, false, ◌&&◌, ◌||◌, not, cond, beq, false≢true}
+use mathlib.Core.Bool.{Bool, true, false, ◌&&◌, ◌||◌, cond, beq, false≢true}
 use borrow.Author.Tests.{ltb-true, eqb-true, le-ltb}
 use lib.Dec.{ltb, eqb}
 use lib.Ieee.{Float, nan, inf, fin, up, down, lt, eq, le}
-use Rattle.std.specs.declared.option.Option.TheVariants.{None}
 use Rattle.coo3d.specs.declared.Coo3D.{Coo3D}
-use Rattle.region.specs.Edges.{Edge}
-use Rattle.parallels.specs.Parallels.{south_of, north_of, spans_lat, parallel_crossing}
+use Rattle.parallels.specs.Parallels.{south_of, north_of, spans_lat}
 
 -- ---- what is at most y is not above it
 
@@ -61,12 +59,8 @@ pub one_side : (from to : Coo3D) (lat : Float) → le from.lat lat ≡ le to.lat
 unfolding spans_lat south_of north_of
 one_side from to lat h = by_order from to lat (lt to.lat from.lat) h
 
-pub alike : (p q : Bool) → not (beq p q) ≡ false → p ≡ q
+pub alike : (p q : Bool) → beq p q ≡ true → p ≡ q
 alike true true h = refl
-alike true false h = h
-alike false true h = sym h
+alike true false h = sym h
+alike false true h = h
 alike false false h = refl
-
-pub not_crossed : (lat sin cos : Float) (e : Edge) → spans_lat e.from e.to lat ≡ false → None ≡ parallel_crossing lat sin cos e
-unfolding parallel_crossing
-not_crossed lat sin cos e h = rw h refl

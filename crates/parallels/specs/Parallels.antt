@@ -8,7 +8,7 @@ use Rattle.coo3d.specs.declared.Vect3.{Vect3}
 use Rattle.coo3d.specs.declared.UnitVect3.{UnitVect3}
 use Rattle.coo3d.specs.Vectors.{vect_of_point, vect_of_unit, dot_of, cross_of}
 use Rattle.float.specs.Doubles.{◌⊕◌, ◌⊖◌, ◌⊗◌, ◌⊘◌, nought, one, two, half_pi, pow2, is_finite, inclusive, half_open}
-use Rattle.region.specs.Edges.{Edge}
+use Rattle.region.specs.declared.Edge.{Edge}
 use Rattle.root.specs.Root.{sqrt_of}
 
 -- lat, sine and cosine are finite, lat is within ±HALF_PI, the others within ±1

@@ -7,10 +7,10 @@ ghost use Rattle.refusal.specs.Answer.{answer_of};
 ghost use Rattle.region.specs.View.{view_of};
 ghost use Rattle.crossings.specs.Crossings.{first_answer, Lists};
 ghost use Rattle.parallels.specs.Parallels.{is_parallel, south_of, north_of, spans_lat, straddles, point_at_y, either_of, second_degree, case_a, case_b, point_of, parallel_crossing};
-ghost use Rattle.parallels.specs.Queries.{parallel_first_of, parallel_all_of, is_intersecting_parallel};
+ghost use Rattle.parallels.specs.Queries.{parallel_at, first_fit_of, parallel_first_of, parallel_all_of, is_intersecting_parallel};
 
 use coo3d::{Coo3D, UnitVect3, Vect3};
-use crossings::{AllAnswer, Crossings};
+use crossings::{AllAnswer, Curve};
 use refusal::Cause;
 use region::Region;
 
@@ -22,26 +22,22 @@ fn is_parallel(lat: f64, sin: f64, cos: f64) -> bool
         & float::within(-1.0, cos, 1.0)
 }
 
-// Of two points, the one with the lower latitude, and the other.
-fn south_of(a: Coo3D, b: Coo3D) -> Coo3D
-    ensures { result ≡ south_of a b }
+// Two points by latitude, the southern one first.
+fn by_latitude(a: Coo3D, b: Coo3D) -> (Coo3D, Coo3D)
+    ensures { result ≡ (south_of a b, north_of a b) }
 {
-    if a.lat > b.lat { b } else { a }
+    if a.lat > b.lat { (b, a) } else { (a, b) }
 }
 
-fn north_of(a: Coo3D, b: Coo3D) -> Coo3D
-    ensures { result ≡ north_of a b }
+// Whether the edge's latitudes fit: from the lower one up to, but not at, the higher. Most edges have both ends on one side, and need no more.
+fn spans_lat(from: &Coo3D, to: &Coo3D, lat: f64) -> bool
+    ensures { result ≡ spans_lat from.now to.now lat }
 {
-    if a.lat > b.lat { a } else { b }
-}
-
-// Whether the edge's latitudes fit: from the lower one up to, but not at, the higher.
-fn spans_lat(from: Coo3D, to: Coo3D, lat: f64) -> bool
-    ensures { result ≡ spans_lat from to lat }
-{
-    let pa = south_of(from, to);
-    let pb = north_of(from, to);
-    float::within_half_open(pa.lat, lat, pb.lat)
+    if (from.lat <= lat) == (to.lat <= lat) {
+        return false;
+    }
+    let (south, north) = by_latitude(*from, *to);
+    float::within_half_open(south.lat, lat, north.lat)
 }
 
 // Whether p lies between pa and pb on their great circle.
@@ -77,7 +73,15 @@ fn either(p: UnitVect3, q: UnitVect3, pa: Coo3D, pb: Coo3D) -> Option<UnitVect3>
 }
 
 // Cases A.1 and A.2, and no real solution: y by an equation of the second degree.
-fn second_degree(pa: Coo3D, pb: Coo3D, n: Vect3, z: f64, two_a: f64, b: f64, delta: f64) -> Option<UnitVect3>
+fn second_degree(
+    pa: Coo3D,
+    pb: Coo3D,
+    n: Vect3,
+    z: f64,
+    two_a: f64,
+    b: f64,
+    delta: f64,
+) -> Option<UnitVect3>
     ensures { result ≡ second_degree pa pb n z two_a b delta }
 {
     if delta > 0.0 {
@@ -127,133 +131,92 @@ fn case_b(pa: Coo3D, pb: Coo3D, n: Vect3, z: f64, lat_cos: f64) -> Option<UnitVe
     }
 }
 
-// The crossing of an edge whose latitudes fit.
-fn point_of(from: Coo3D, to: Coo3D, n: Vect3, lat_sin: f64, lat_cos: f64) -> Option<UnitVect3>
-    ensures { result ≡ point_of (record { from = from; to = to; normal = n }) lat_sin lat_cos }
-{
-    // Case A does not ask which end is the southern one.
-    if n.x != 0.0 {
-        case_a(from, to, n, lat_sin, lat_cos)
-    } else {
-        let pa = south_of(from, to);
-        let pb = north_of(from, to);
-        case_b(pa, pb, n, lat_sin, lat_cos)
+// A latitude with its sine and cosine.
+#[derive(Clone, Copy)]
+struct Parallel {
+    lat: f64,
+    sin: f64,
+    cos: f64,
+}
+
+impl Parallel {
+    fn new(lat: f64, sin: f64, cos: f64) -> Result<Parallel, Cause>
+        ensures { answer_of result ≡ parallel_at lat sin cos }
+    {
+        if is_parallel(lat, sin, cos) {
+            Ok(Parallel { lat, sin, cos })
+        } else {
+            Err(Cause::NoSuchParallel)
+        }
+    }
+
+    // The crossing of an edge whose latitudes fit.
+    fn point_of(&self, from: Coo3D, to: Coo3D, n: Vect3) -> Option<UnitVect3>
+        ensures { result ≡ point_of (record { from = from; to = to; normal = n }) self.now.sin self.now.cos }
+    {
+        // Case A does not ask which end is the southern one.
+        if n.x != 0.0 {
+            case_a(from, to, n, self.sin, self.cos)
+        } else {
+            let (pa, pb) = by_latitude(from, to);
+            case_b(pa, pb, n, self.sin, self.cos)
+        }
     }
 }
 
-fn parallel_crossing(
+impl Curve for Parallel {
+    ghost crossing_of = { λ p e. parallel_crossing p.lat p.sin p.cos e };
+
+    fn crossing(&self, from: &Coo3D, to: &Coo3D, normal: &Vect3) -> Option<UnitVect3> {
+        if spans_lat(from, to, self.lat) {
+            self.point_of(*from, *to, *normal)
+        } else {
+            None
+        }
+    }
+}
+
+// The first edge whose latitudes fit decides. So this is not `crossings::first_crossing`, which goes on past one that gives no point.
+fn first_fit(r: &Region, parallel: Result<Parallel, Cause>) -> Result<Option<UnitVect3>, Cause>
+    ensures { first_answer result ≡ first_fit_of (view_of r.now) parallel }
+{
+    let count = r.count;
+    domain::check_count(count)?;
+    let parallel = parallel?;
+    let mut from = &r.vertices[count - 1];
+    for i in 0..count {
+        let to = &r.vertices[i];
+        if spans_lat(from, to, parallel.lat) {
+            return crossings::test_finite(parallel.point_of(*from, *to, r.cross_products[i]));
+        }
+        from = to;
+    }
+    Ok(None)
+}
+
+pub fn intersect_parallel(
+    r: Region,
     lat: f64,
     lat_sin: f64,
     lat_cos: f64,
-    from: Coo3D,
-    to: Coo3D,
-    n: Vect3,
-) -> Option<UnitVect3>
-    ensures { result ≡ parallel_crossing lat lat_sin lat_cos (record { from = from; to = to; normal = n }) }
-{
-    if spans_lat(from, to, lat) {
-        point_of(from, to, n, lat_sin, lat_cos)
-    } else {
-        None
-    }
-}
-
-// The first edge whose latitudes fit decides.
-pub fn intersect_parallel(r: Region, lat: f64, lat_sin: f64, lat_cos: f64) -> Result<Option<UnitVect3>, Cause>
+) -> Result<Option<UnitVect3>, Cause>
     ensures { first_answer result ≡ parallel_first_of (view_of r) lat lat_sin lat_cos }
 {
-    let count = r.count;
-    if count == 0 {
-        return Err(Cause::NoPoint);
-    }
-    if count > 64 {
-        return Err(Cause::TooManyPoints);
-    }
-    if !is_parallel(lat, lat_sin, lat_cos) {
-        return Err(Cause::NoSuchParallel);
-    }
-    // Taken out of the region: an index into it would have all of it copied, to the place beside it, where a copy is slow.
-    let vertices = r.vertices;
-    let normals = r.cross_products;
-    let mut before = count - 1;
-    // An edge that fits has its ends on both sides of the parallel.
-    let mut from_below = vertices[before].lat <= lat;
-    let mut i: usize = 0;
-    while i < count {
-        let to_below = vertices[i].lat <= lat;
-        if from_below != to_below {
-            let from = vertices[before];
-            let to = vertices[i];
-            if spans_lat(from, to, lat) {
-                let n = normals[i];
-                let Ok(c) = crossings::test_finite(point_of(
-                    from, to, n, lat_sin, lat_cos,
-                )) else {
-                    return Err(Cause::NotFinite);
-                };
-                let Some(p) = c else {
-                    return Ok(None);
-                };
-                return Ok(Some(p));
-            }
-            from_below = to_below;
-        }
-        before = i;
-        i += 1;
-    }
-    Ok(None)
+    first_fit(&r, Parallel::new(lat, lat_sin, lat_cos))
 }
 
 pub fn intersect_parallel_all(r: Region, lat: f64, lat_sin: f64, lat_cos: f64) -> AllAnswer
     ensures { Lists result (parallel_all_of (view_of r) lat lat_sin lat_cos) }
 {
-    let count = r.count;
-    if count == 0 {
-        return crossings::refused(Cause::NoPoint);
-    }
-    if count > 64 {
-        return crossings::refused(Cause::TooManyPoints);
-    }
-    if !is_parallel(lat, lat_sin, lat_cos) {
-        return crossings::refused(Cause::NoSuchParallel);
-    }
-    let vertices = r.vertices;
-    let normals = r.cross_products;
-    let mut points = crossings::no_points();
-    let mut len: usize = 0;
-    let mut before = count - 1;
-    let mut from_below = vertices[before].lat <= lat;
-    let mut i: usize = 0;
-    while i < count {
-        let to_below = vertices[i].lat <= lat;
-        if from_below != to_below {
-            let from = vertices[before];
-            let to = vertices[i];
-            let n = normals[i];
-            let Ok(c) = crossings::test_finite(parallel_crossing(
-                lat, lat_sin, lat_cos, from, to, n,
-            )) else {
-                return crossings::refused(Cause::NotFinite);
-            };
-            match c {
-                Some(p) => {
-                    points[len] = p;
-                    len += 1;
-                }
-                None => {}
-            }
-            from_below = to_below;
-        }
-        before = i;
-        i += 1;
-    }
-    AllAnswer {
-        crossings: Crossings { points, len },
-        outcome: Ok(()),
-    }
+    crossings::all_crossings(&r, Parallel::new(lat, lat_sin, lat_cos))
 }
 
-pub fn is_intersecting_parallel(r: Region, lat: f64, lat_sin: f64, lat_cos: f64) -> Result<bool, Cause>
+pub fn is_intersecting_parallel(
+    r: Region,
+    lat: f64,
+    lat_sin: f64,
+    lat_cos: f64,
+) -> Result<bool, Cause>
     ensures { answer_of result ≡ is_intersecting_parallel (view_of r) lat lat_sin lat_cos }
 {
     crossings::is_intersecting(intersect_parallel(r, lat, lat_sin, lat_cos))

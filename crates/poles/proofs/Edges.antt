@@ -13,7 +13,8 @@ use Rattle.lists.specs.Counts.{exactly_one, odd_many, is_odd, every}
 use Rattle.lists.specs.Cyclic.{last_of, along}
 use Rattle.lists.proofs.All.{All, all_both, every_each, both}
 use Rattle.lists.proofs.Odd.{odd, odd_same, odd_none, odd_both, odd_more, changes, closed_walk, one_false}
-use Rattle.region.specs.Edges.{Edge, normal_of, edge, crosses_seam, is_in_range, is_counted}
+use Rattle.region.specs.declared.Edge.{Edge}
+use Rattle.region.specs.Edges.{normal_of, edge, crosses_seam, is_in_range, is_counted}
 use Rattle.region.specs.View.{View, nowhere, seams_from, seams_of, edges_of, edges_from, made}
 use Rattle.region.proofs.Drawn.{odd_drawn, each_drawn}
 use Rattle.region.proofs.InRange.{in_range_is, meridian_never}

@@ -19,7 +19,8 @@ use Rattle.making.specs.Made.{Made}
 use Rattle.making.proofs.Made.{is_made}
 use Rattle.refusal.specs.Answer.{Answer, answered}
 use Rattle.region.specs.declared.Region.{Region}
-use Rattle.region.specs.Edges.{Edge, is_in_range, is_counted}
+use Rattle.region.specs.declared.Edge.{Edge}
+use Rattle.region.specs.Edges.{is_in_range, is_counted}
 use Rattle.region.specs.Made.{IsMade}
 use Rattle.region.specs.Region.{contains_of, seam_count_of}
 use Rattle.region.specs.View.{View, view_of, made, edges_of, in_range_count, odd_at, contained}

@@ -1,7 +1,6 @@
 -- The poles explained by the seam count: theorems about every made region, of what `contains` and `seam_count` answer.
-use Rattle.std.specs.declared.result.Result.{Result}
 use Rattle.refusal.specs.declared.Cause.{Cause}
-use Rattle.std.specs.Prelude.{ℕ, ◌≡◌, Bool, true, ◌||◌, cond, Float}
+use Rattle.std.specs.Prelude.{ℕ, ◌≡◌, Bool, true, ◌||◌, cond, Float, Result}
 use Rattle.std.specs.Float.Ieee.{neg, lt, eq}
 use Rattle.float.specs.Doubles.{nought, one}
 use Rattle.coo3d.specs.declared.Coo3D.{Coo3D}
@@ -11,7 +10,7 @@ use Rattle.domain.specs.Domain.{in_domain}
 use Rattle.lists.specs.Counts.{exactly_one, is_odd, every}
 use Rattle.refusal.specs.Answer.{answered, answer_of}
 use Rattle.region.specs.declared.Region.{Region}
-use Rattle.region.specs.Edges.{Edge}
+use Rattle.region.specs.declared.Edge.{Edge}
 use Rattle.region.specs.Region.{contains_of, seam_count_of}
 use Rattle.region.specs.View.{view_of, edges_of, in_range_count}
 

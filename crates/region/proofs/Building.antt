@@ -5,7 +5,7 @@ use native.Mathlib.Nat.{le_refl}
 use mir.Val.{bool_byte}
 use mathlib.Core.Path.{◌≡◌, refl, sym, ap, subst, ◌∙◌}
 use mathlib.Core.Bool.{Bool, false}
-use mathlib.Core.List.{List, [], ◌++◌}
+use mathlib.Core.List.{List, ◌++◌}
 use lib.ListN.{length, take, drop, get_or, set, length-set}
 use lib.Seq.{length-take-le, get_or-set_other}
 use Rattle.std.specs.declared.result.Result.{Result}
@@ -13,8 +13,8 @@ use Rattle.std.specs.declared.result.Result.TheVariants.{Ok, Err}
 use Rattle.std.specs.Prelude.{⊤}
 use Rattle.coo3d.specs.declared.Coo3D.{Coo3D}
 use Rattle.coo3d.specs.declared.Vect3.{Vect3}
-use Rattle.domain.specs.Checks.{point_at, points_from, points_of}
-use Rattle.domain.proofs.Counts.{count_none, count_many, count_few}
+use Rattle.domain.specs.Checks.{point_at, points_from, points_of, with_count}
+use Rattle.domain.proofs.Counts.{count_in, count_refused}
 use Rattle.domain.proofs.Inside.{Good}
 use Rattle.domain.proofs.Points.{so_far, far_start, far_good, far_bad, far_end}
 use Rattle.lists.specs.Cyclic.{along}
@@ -30,14 +30,13 @@ use Rattle.region.specs.View.{View, view_of, with_flag, seams_of, normals_of, ma
 use Rattle.region.specs.Region.{rule_at, flag_of, build_of, region_by, Builds}
 use Rattle.region.proofs.Corners.{normals_start, normals_turn, normals_done}
 use Rattle.region.proofs.Seam.{Counting, counting_ends, seams_start, seams_turn}
-use Rattle.region.proofs.Rules.{no_zero, some}
+use Rattle.region.proofs.Rules.{some}
 use Rattle.region.proofs.Flags.{flag_fixed, flag_checked, flag_refused, flag_only}
 use Rattle.region.proofs.Builds.{BuiltOf, build_answered, built_good, built_fixed}
 
 -- ---- the corners, checked one after the other
 
 pub record Checking (points : List Coo3D) (count : ℕ) (flag : Bool) (r : Region) (i : ℕ) : Type 0 where
-  pub below : i ≤ count
   pub corners : length r.vertices ≡ 64
   pub normals : length r.cross_products ≡ 64
   pub counted : r.count ≡ count
@@ -53,7 +52,7 @@ later h = omega (arith, h)
 
 pub checking_starts : (points : List Coo3D) (count : ℕ) (flag : Bool) (r : Region) → r.vertices ≡ points → length points ≡ 64 → length r.cross_products ≡ 64 → r.count ≡ count → r.contains_south_pole ≡ flag → Checking points count flag r 0
 checking_starts points count flag r v e n k f =
-    record { below = omega arith; corners = ap length v ∙ e; normals = n; counted = k; flagged = f; rest = λ j h. ap (λ (l : List Coo3D). get_or l j nowhere) v; so_far_is = far_start points count r.vertices }
+    record { corners = ap length v ∙ e; normals = n; counted = k; flagged = f; rest = λ j h. ap (λ (l : List Coo3D). get_or l j nowhere) v; so_far_is = far_start points count r.vertices }
 
 module _ {points : List Coo3D} {count i : ℕ} {flag : Bool} {r : Region} (inv : Checking points count flag r i) (full : length points ≡ 64) where
   pub checking_good : count ≤ 64 → i < count → (q : Coo3D) → point_at i (get_or r.vertices i nowhere) ≡ answered q
@@ -64,7 +63,6 @@ module _ {points : List Coo3D} {count i : ℕ} {flag : Bool} {r : Region} (inv :
       let room : i < length r.vertices = omega (arith, below, few, corners) in
       let at : get_or r.vertices i nowhere ≡ get_or points i nowhere = inv.rest i (le_refl i) in
       record {
-        below = omega (arith, below);
         corners = length-set r.vertices i q ∙ inv.corners;
         normals = inv.normals;
         counted = inv.counted;
@@ -73,41 +71,40 @@ module _ {points : List Coo3D} {count i : ℕ} {flag : Bool} {r : Region} (inv :
         so_far_is = sym (far_good points count i r.vertices nowhere long below q room (ap (point_at i) (sym at) ∙ e)) ∙ inv.so_far_is;
       }
 
-  pub checking_bad : (count ≡ 0 → ⊥) → count ≤ 64 → i < count → (k : ℕ) (vs : List ℕ) → refused k vs ≡ point_at i (get_or r.vertices i nowhere) → refused k vs ≡ points_of points count
+  pub checking_bad : (0 < count) × (count ≤ 64) → i < count → (k : ℕ) (vs : List ℕ) → refused k vs ≡ point_at i (get_or r.vertices i nowhere) → refused k vs ≡ points_of points count
   unfolding points_of
-  checking_bad some few below k vs e =
+  checking_bad n below k vs e =
+      let few = n.1 in
       let long : count ≤ length points = omega (arith, few, full) in
-      sym (far_bad points count i r.vertices nowhere long below k vs (e ∙ ap (point_at i) (inv.rest i (le_refl i)))) ∙ inv.so_far_is ∙ sym (count_few count _ some few)
+      sym (far_bad points count i r.vertices nowhere long below k vs (e ∙ ap (point_at i) (inv.rest i (le_refl i)))) ∙ inv.so_far_is ∙ sym (count_in count _ n)
 
-  pub checked : (count ≡ 0 → ⊥) → count ≤ 64 → count ≤ i → answered (take count r.vertices) ≡ points_of points count
+  pub checked : (0 < count) × (count ≤ 64) → i ≡ count → answered (take count r.vertices) ≡ points_of points count
   unfolding points_of
-  checked some few passed =
+  checked n at =
+      let few = n.1 in
       let long : count ≤ length points = omega (arith, few, full) in
-      let below = inv.below in
-      let at : i ≡ count = omega (arith, passed, below) in
-      sym (far_end points count i r.vertices long at) ∙ inv.so_far_is ∙ sym (count_few count _ some few)
+      sym (far_end points count i r.vertices long at) ∙ inv.so_far_is ∙ sym (count_in count _ n)
 
 -- ---- the normals, worked out one after the other
 
 pub record Working (corners : List Coo3D) (count : ℕ) (flag : Bool) (r : Region) (from : Coo3D) (k : ℕ) : Type 0 where
-  pub below : k ≤ count
   pub same : r.vertices ≡ corners
   pub normals : length r.cross_products ≡ 64
   pub counted : r.count ≡ count
   pub flagged : r.contains_south_pole ≡ flag
   pub so_far_is : take k r.cross_products ++ along normal_of from (drop k (take count corners)) ≡ normals_of (take count corners)
 
-pub working_starts : {points : List Coo3D} {count i : ℕ} {flag : Bool} {r : Region} → Checking points count flag r i → (count ≡ 0 → ⊥) → count ≤ 64 → Working r.vertices count flag r (get_or r.vertices (count - 1) nowhere) 0
-working_starts {points} {count} {i} {flag} {r} inv some few =
+pub working_starts : {points : List Coo3D} {count i : ℕ} {flag : Bool} {r : Region} → Checking points count flag r i → (0 < count) × (count ≤ 64) → Working r.vertices count flag r (get_or r.vertices (count - 1) nowhere) 0
+working_starts {points} {count} {i} {flag} {r} inv n =
     let corners = inv.corners in
+    let few = n.1 in
     let long : count ≤ length r.vertices = omega (arith, few, corners) in
     record {
-      below = omega arith;
       same = refl;
       normals = inv.normals;
       counted = inv.counted;
       flagged = inv.flagged;
-      so_far_is = normals_start r.vertices count nowhere (no_zero some) long;
+      so_far_is = normals_start r.vertices count nowhere n.0 long;
     }
 
 pub working_turn : {corners : List Coo3D} {count k : ℕ} {flag : Bool} {r : Region} {from : Coo3D} → Working corners count flag r from k → length corners ≡ 64 → count ≤ 64 → k < count
@@ -120,7 +117,6 @@ working_turn {corners} {count} {k} {flag} {r} {from} inv full few below n e =
     let room : k < length r.cross_products = omega (arith, below, few, normals) in
     let at : get_or r.vertices k nowhere ≡ get_or corners k nowhere = ap (λ (l : List Coo3D). get_or l k nowhere) inv.same in
     record {
-      below = omega (arith, below);
       same = inv.same;
       normals = length-set r.cross_products k n ∙ inv.normals;
       counted = inv.counted;
@@ -130,12 +126,13 @@ working_turn {corners} {count} {k} {flag} {r} {from} inv full few below n e =
 
 -- ---- and with them the edges that cross the seam
 
-pub seams_first : {points : List Coo3D} {count i : ℕ} {flag : Bool} {r : Region} → Checking points count flag r i → (count ≡ 0 → ⊥) → count ≤ 64
+pub seams_first : {points : List Coo3D} {count i : ℕ} {flag : Bool} {r : Region} → Checking points count flag r i → (0 < count) × (count ≤ 64)
     → Counting (take count r.vertices) 0 (get_or r.vertices (count - 1) nowhere) 0
-seams_first {count = count} {r = r} inv some few =
+seams_first {count = count} {r = r} inv n =
     let corners = inv.corners in
+    let few = n.1 in
     let long : count ≤ length r.vertices = omega (arith, few, corners) in
-    seams_start r.vertices count long (no_zero some)
+    seams_start r.vertices count long n.0
 
 pub seams_next : {corners : List Coo3D} {count k n : ℕ} {flag : Bool} {r : Region} {from : Coo3D} → Working corners count flag r from k → Counting (take count corners) n from k
     → length corners ≡ 64 → count ≤ 64 → k < count → (b : Bool) → b ≡ crosses_seam from.lon (get_or r.vertices k nowhere).lon
@@ -155,13 +152,10 @@ passed_on l n rule k vs e = rw (sym e)
 pub not_built : (l : List Coo3D) (n : ℕ) (rule : ContainsSouthPoleMethod) (k : ℕ) (vs : List ℕ) (b : Built) → Builds b (refused k vs) → refused k vs ≡ points_of l n → Builds b (build_of l n rule)
 not_built l n rule k vs b h e = subst (Builds b) (passed_on l n rule k vs e) h
 
-pub no_points : (l : List Coo3D) {n : ℕ} → n ≡ 0 → points_of l n ≡ refused 2 []
+-- a count that is refused
+pub uncounted : (l : List Coo3D) (n : ℕ) {k : ℕ} {vs : List ℕ} → refused k vs ≡ with_count {A = ⊤} n (answered tt) → refused k vs ≡ points_of l n
 unfolding points_of
-no_points l {n} e = count_none n _ e
-
-pub many_points : (l : List Coo3D) (n : ℕ) → (n ≡ 0 → ⊥) → 64 < n → points_of l n ≡ refused 3 []
-unfolding points_of
-many_points l n some h = count_many n _ some h
+uncounted l n e = count_refused n tt (points_from 0 (take n l)) e
 
 fixed_is : (l : List Coo3D) (n : ℕ) (flag : Bool) (cs : List Coo3D) → answered cs ≡ points_of l n → (length cs ≡ 0 → ⊥) → length cs ≤ 64 → answered (made cs flag) ≡ build_of l n (fixed_rule flag)
 unfolding build_of
@@ -172,24 +166,22 @@ abbrev pub seamed : Region → ℕ → Region
 seamed r n = record { vertices = r.vertices; cross_products = r.cross_products; count = r.count; contains_south_pole = r.contains_south_pole; seam_count = n }
 
 module _ {points : List Coo3D} {count i k n : ℕ} {flag : Bool} {r₀ r : Region} {from : Coo3D} (first : Checking points count flag r₀ i) (second : Working r₀.vertices count flag r from k)
-    (seams : Counting (take count r₀.vertices) n from k) (full : length points ≡ 64) (some : count ≡ 0 → ⊥) (few : count ≤ 64) (passed : count ≤ i) (passed' : count ≤ k) where
+    (seams : Counting (take count r₀.vertices) n from k) (full : length points ≡ 64) (range : (0 < count) × (count ≤ 64)) (passed : i ≡ count) (passed' : k ≡ count) where
   long : count ≤ length r₀.vertices
-  long = let e = first.corners in omega (arith, few, e)
+  long = let e = first.corners in omega (arith, range.1, e)
 
   as_made : view_of (seamed r n) ≡ made (take count r₀.vertices) flag
   as_made =
-      let below = second.below in
-      let at : k ≡ count = omega (arith, passed', below) in
-      let normals : take count r.cross_products ≡ normals_of (take count r₀.vertices) = sym (normals_done r₀.vertices count from r.cross_products k long at) ∙ second.so_far_is in
+      let normals : take count r.cross_products ≡ normals_of (take count r₀.vertices) = sym (normals_done r₀.vertices count from r.cross_products k long passed') ∙ second.so_far_is in
       let len : length (take count r₀.vertices) ≡ count = length-take-le count r₀.vertices long in
-      let crossings : n ≡ seams_of (take count r₀.vertices) = counting_ends seams (rw len passed') in
+      let crossings : n ≡ seams_of (take count r₀.vertices) = counting_ends seams (rw len (omega (arith, passed'))) in
       rw (second.counted, second.same, second.flagged, normals, crossings, len)
 
   pub ends : Builds (record { region = seamed r n; outcome = (Ok tt) }) (build_of points count (fixed_rule flag))
   ends =
       let cs = take count r₀.vertices in
       let len : length cs ≡ count = length-take-le count r₀.vertices long in
-      let built = fixed_is points count flag cs (checked first full some few passed) (λ (z : length cs ≡ 0). some (sym len ∙ z)) (rw len few) in
+      let built = fixed_is points count flag cs (checked first full range passed) (λ (z : length cs ≡ 0). some range.0 (sym len ∙ z)) (rw len range.1) in
       subst (Builds (record { region = seamed r n; outcome = (Ok tt) })) built (record { outcome = refl; view = as_made })
 
 -- ---- by a rule: what was built by a fixed one, with the flag that the rule sets

@@ -1,5 +1,5 @@
 -- Laws for loops that decide containment: the tests of count and point in front of them, an edge that is passed, and the end.
-use Prim.Native.Nat.{ℕ, ◌+◌, ◌≤◌, ◌<◌}
+use Prim.Native.Nat.{ℕ, ◌+◌, ◌-◌, ◌≤◌, ◌<◌}
 use native.Mathlib.Omega.{arith}
 use mathlib.Core.Path.{◌≡◌, sym, ap, ◌∙◌}
 use mathlib.Core.Bool.{Bool, true, false}
@@ -11,15 +11,16 @@ use Rattle.coo3d.specs.declared.Vect3.{Vect3}
 use Rattle.coo3d.specs.Vectors.{vect_of_point, dot_of}
 use Rattle.float.specs.Doubles.{nought}
 use Rattle.domain.specs.Checks.{point_at, with_count}
-use Rattle.domain.proofs.Counts.{count_few}
+use Rattle.domain.proofs.Counts.{count_few, count_in}
 use Rattle.domain.proofs.Points.{point_refused}
 use Rattle.lists.specs.Counts.{exactly_one, odd_many}
 use Rattle.lists.proofs.Odd.{odd_turn, odd_done, one_false}
 use Rattle.refusal.specs.Answer.{answered, refused, and_then}
 use Rattle.region.specs.declared.Region.{Region}
 use Rattle.region.specs.Edges.{Edge, in_lon_range, is_counted}
-use Rattle.region.specs.View.{view_of, nowhere, odd_at, contained, edges_of}
-use Rattle.region.proofs.Edges.{edges_left, edge_at, turn, done}
+use Rattle.region.specs.View.{View, view_of, nowhere, odd_at, contained, edges_of}
+use Rattle.region.specs.Region.{contains_of}
+use Rattle.region.proofs.Edges.{edges_left, edge_at, start, turn, done}
 
 -- ---- whatever is asked of a region and a point
 
@@ -55,3 +56,23 @@ in_range_there p e odd v d h i j = rw (h, sym i, j)
 -- an array of 64 has the entries that a count takes in
 pub room : (n m : ℕ) → m ≡ 64 → n ≤ 64 → n ≤ m
 room n m e h = omega (arith, e, h)
+
+-- ---- containment alone: the side as it is after the edges before i
+
+pub record Deciding (p : Coo3D) (r : Region) (side : Bool) (from : Coo3D) (i : ℕ) : Type 0 where
+  pub so_far_is : exactly_one side (odd_many (is_counted p) (edges_left r from i)) ≡ contained p (view_of r)
+
+module _ (p : Coo3D) (r : Region) (few : r.count ≤ 64) (corners : length r.vertices ≡ 64) where
+  pub deciding_starts : 0 < r.count → Deciding p r r.contains_south_pole (get_or r.vertices (r.count - 1) nowhere) 0
+  deciding_starts some = record { so_far_is = sym (started p r _ (start r some (room _ _ corners few))) }
+
+  pub deciding_goes_on : {side side' : Bool} {from : Coo3D} {i : ℕ} → Deciding p r side from i → length r.cross_products ≡ 64 → i < r.count
+      → side' ≡ exactly_one side (is_counted p (edge_at r from i)) → Deciding p r side' (get_or r.vertices i nowhere) (i + 1)
+  deciding_goes_on {side} {side'} {from} {i} inv normals below e = record { so_far_is = passed p r side side' from i (room _ _ corners few) (room _ _ normals few) below e ∙ inv.so_far_is }
+
+  pub decided : {side : Bool} {from : Coo3D} {i : ℕ} → Deciding p r side from i → r.count ≤ i → side ≡ contained p (view_of r)
+  decided {side} {from} {i} inv over = all_passed p r side from i (room _ _ corners few) over ∙ inv.so_far_is
+
+pub decision : (v : View) (p : Coo3D) {q : Coo3D} {side : Bool} → (0 < v.count) × (v.count ≤ 64) → answered q ≡ point_at 0 p → side ≡ contained q v → answered side ≡ contains_of v p
+unfolding contains_of
+decision v p n e h = ap answered h ∙ sym (count_in v.count _ n ∙ rw (sym e))

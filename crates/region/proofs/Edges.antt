@@ -2,7 +2,9 @@
 use Prim.Native.Nat.{ℕ, zero, suc, ◌+◌, ◌-◌, ◌≤◌, ◌<◌}
 use native.Mathlib.Nat.{le_of_suc-le-suc, not-suc-le-zero}
 use native.Mathlib.Omega.{arith}
-use mathlib.Core.Path.{◌≡◌, refl, ap, ◌∙◌}
+use mathlib.Core.Path.{◌≡◌, refl, sym, ap, ◌∙◌}
+use Rattle.std.proofs.lemmas.List.{take_min}
+use Rattle.std.proofs.Common.{min}
 use mathlib.Core.List.{List, [], ◌∷◌}
 use lib.Ieee.{nan}
 use lib.ListN.{length, take, drop, get_or, length-take}
@@ -49,6 +51,39 @@ module _ (r : Region) where
   pub done : (from : Coo3D) (i : ℕ) → r.count ≤ length r.vertices → r.count ≤ i → edges_left r from i ≡ []
   unfolding edges_left edges_from
   done from i long passed = rw (none_left r.vertices r.count i long passed)
+
+-- ---- the edges that an iterator has left
+
+pub none_ahead : (from : Coo3D) (cs : List Coo3D) (ns : List Vect3) → length cs ≡ 0 → edges_from from cs ns ≡ []
+unfolding edges_from
+none_ahead from [] ns e = refl
+none_ahead from (c ∷ cs) ns e = absurd (omega (arith, e))
+
+pub none_there : (from : Coo3D) (cs : List Coo3D) (ns : List Vect3) → length ns ≡ 0 → edges_from from cs ns ≡ []
+unfolding edges_from
+none_there from [] ns e = refl
+none_there from (c ∷ cs) [] e = refl
+none_there from (c ∷ cs) (n ∷ ns) e = absurd (omega (arith, e))
+
+pub next_ahead : (from : Coo3D) {cs cs' : List Coo3D} {ns ns' : List Vect3} {c : Coo3D} {n : Vect3} → cs ≡ c ∷ cs' → ns ≡ n ∷ ns'
+    → edges_from from cs ns ≡ record { from = from; to = c; normal = n } ∷ edges_from c cs' ns'
+unfolding edges_from
+next_ahead from p q = rw (p, q)
+
+-- a region's first edges, as many as its arrays hold, are all its edges
+module _ (r : Region) (n : ℕ) (corners : length r.vertices ≡ 64) (normals : length r.cross_products ≡ 64) (capped : n ≡ min r.count 64) where
+  first : {A : Type 0} (l : List A) → length l ≡ 64 → take r.count l ≡ take n l
+  first l e = sym (take_min r.count l) ∙ rw (e, capped) refl
+
+  pub edges_none : (from : Coo3D) → n ≡ 0 → edges_from from (take n r.vertices) (take n r.cross_products) ≡ edges_of (view_of r)
+  unfolding edges_of edges_from
+  edges_none from e = rw (first r.vertices corners, e) refl
+
+  pub edges_some : 0 < n → edges_from (get_or r.vertices (n - 1) nowhere) (take n r.vertices) (take n r.cross_products) ≡ edges_of (view_of r)
+  unfolding edges_of
+  edges_some some =
+      let long : n ≤ length r.vertices = omega (arith, corners, capped) in
+      rw (first r.vertices corners, first r.cross_products normals) (ap (λ (c : Coo3D). edges_from c (take n r.vertices) (take n r.cross_products)) (sym (last_take r.vertices n nowhere nowhere some long)))
 
 edges_from_length : (from : Coo3D) (cs : List Coo3D) (ns : List Vect3) → length (edges_from from cs ns) ≤ length cs
 unfolding edges_from

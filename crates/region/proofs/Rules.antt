@@ -3,12 +3,11 @@ use Prim.Native.Nat.{ℕ, ◌≤◌, ◌<◌}
 use native.Mathlib.Omega.{arith}
 use mathlib.Core.Path.{◌≡◌, refl, sym, ap, subst, ◌∙◌}
 use mathlib.Core.Bool.{Bool, true, false}
-use mathlib.Core.List.{List, [], ◌∷◌}
+use mathlib.Core.List.{List}
 use Rattle.coo3d.specs.declared.Coo3D.{Coo3D}
 use Rattle.domain.specs.Checks.{point_at}
 use Rattle.domain.proofs.Counts.{count_few}
 use Rattle.domain.proofs.Handed.{handed_again}
-use Rattle.domain.proofs.Points.{point_refused}
 use Rattle.lists.specs.Counts.{exactly_one}
 use Rattle.refusal.specs.Answer.{Answer, answered, refused, and_then}
 use Rattle.refusal.proofs.Answers.{never, same_answer}
@@ -25,9 +24,6 @@ some h e = omega (arith, h, e)
 
 -- the rule of a control point goes by the check of the point
 module _ (rule : Coo3D → ContainsSouthPoleMethod) (by_point : (i : ℕ) (p : Coo3D) → rule_at i (rule p) ≡ and_then (point_at i p) (λ q. answered (rule q))) where
-  pub point_outside : (i : ℕ) (p : Coo3D) (m : ContainsSouthPoleMethod) (n : ℕ) (vs : List ℕ) → m ≡ rule p → refused n vs ≡ point_at i p → refused 1 (i ∷ []) ≡ rule_at i m
-  point_outside i p m n vs e h = rw (e, by_point i p, point_refused i p n vs h)
-
   pub point_inside : (i : ℕ) (p q : Coo3D) (m : ContainsSouthPoleMethod) → m ≡ rule p → answered q ≡ point_at i p → answered (rule q) ≡ rule_at i m
   point_inside i p q m e h = rw (e, by_point i p, sym h)
 
@@ -52,10 +48,6 @@ rule_again i ContainsSouthPole k e j = subst (λ (m : ContainsSouthPoleMethod). 
 rule_again i DoNotContainsSouthPole k e j = subst (λ (m : ContainsSouthPoleMethod). rule_at j m ≡ answered m) (same_answer e) refl
 rule_again i (ControlPointIn p) k e j = point_again ControlPointIn by_point_in i j p (point_at i p) k refl e
 rule_again i (ControlPointOut p) k e j = point_again ControlPointOut by_point_out i j p (point_at i p) k refl e
-
--- a rule with no control point passes
-pub rule_plain : (i : ℕ) (m k : ContainsSouthPoleMethod) → m ≡ k → rule_at i k ≡ answered k → answered m ≡ rule_at i m
-rule_plain i m k e h = rw e (sym h)
 
 -- the control point of a rule that is handed back as it is, is handed back as it is
 module _ (rule : Coo3D → ContainsSouthPoleMethod) (by_point : (i : ℕ) (p : Coo3D) → rule_at i (rule p) ≡ and_then (point_at i p) (λ q. answered (rule q))) (one-point : (q p : Coo3D) → rule q ≡ rule p → q ≡ p) where

@@ -6,11 +6,7 @@ use Rattle.coo3d.specs.declared.Coo3D.{Coo3D}
 use Rattle.coo3d.specs.declared.Vect3.{Vect3}
 use Rattle.coo3d.specs.Vectors.{vect_of_point, dot_of, cross_of, opposite_of}
 use Rattle.float.specs.Doubles.{◌⊖◌, nought, pi, abs_of, half_open}
-
-pub record Edge : Type 0 where
-  pub from : Coo3D
-  pub to : Coo3D
-  pub normal : Vect3
+pub use Rattle.region.specs.declared.Edge.{Edge}
 
 -- every component negated where z is below 0; a z of 0 is not turned
 unfoldable pub northward : Vect3 → Vect3

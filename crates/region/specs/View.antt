@@ -5,6 +5,7 @@ use Rattle.coo3d.specs.declared.Coo3D.{Coo3D}
 use Rattle.coo3d.specs.declared.Vect3.{Vect3}
 use Rattle.lists.specs.Counts.{exactly_one, odd_many, how_many}
 use Rattle.lists.specs.Cyclic.{last_of, along}
+use Rattle.region.specs.declared.EdgeIter.{EdgeIter}
 use Rattle.region.specs.declared.Region.{Region}
 use Rattle.region.specs.Edges.{Edge, normal_of, crosses_seam, is_in_range, is_counted}
 
@@ -64,6 +65,10 @@ edges_from from (c ∷ cs) (n ∷ ns) = record { from = from; to = c; normal = n
 -- edge 0 starts at the last corner
 unfoldable pub edges_of : View → List Edge
 edges_of v = edges_from (last_of nowhere v.corners) v.corners v.normals
+
+-- what is left of the edges that a loop passes
+abbrev pub edges_ahead : EdgeIter → List Edge
+edges_ahead s = edges_from s.from s.corners.now s.normals.now
 
 -- how many edges are in range at the point
 unfoldable pub in_range_count : Coo3D → View → ℕ

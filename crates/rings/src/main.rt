@@ -6,39 +6,25 @@
 use coo3d::Coo3D;
 use region::{ContainsSouthPoleMethod, Region};
 use std::io;
-
-fn at(x: f64, y: f64, z: f64, lon: f64, lat: f64) -> Coo3D {
-    Coo3D { x, y, z, lon, lat }
-}
+use tell::{at, corners_of};
 
 // Twelve corners along a parallel, from longitude 0 on every 30 degrees. But for the sign, x and y are c and 0, or a and b: cos(lat), cos(lat) cos(30) and
 // cos(lat) sin(30).
 fn ring(c: f64, a: f64, b: f64, z: f64, lat: f64) -> [Coo3D; 64] {
-    let c0 = at(c, 0.0, z, 0.0, lat);
-    let c1 = at(a, b, z, 0.5235987755982989, lat);
-    let c2 = at(b, a, z, 1.0471975511965979, lat);
-    let c3 = at(0.0, c, z, 1.5707963267948966, lat);
-    let c4 = at(-b, a, z, 2.0943951023931957, lat);
-    let c5 = at(-a, b, z, 2.6179938779914944, lat);
-    let c6 = at(-c, 0.0, z, 3.141592653589793, lat);
-    let c7 = at(-a, -b, z, 3.6651914291880923, lat);
-    let c8 = at(-b, -a, z, 4.188790204786391, lat);
-    let c9 = at(0.0, -c, z, 4.71238898038469, lat);
-    let c10 = at(b, -a, z, 5.235987755982989, lat);
-    let c11 = at(a, -b, z, 5.759586531581288, lat);
-    let mut points = [c0; 64];
-    points[1] = c1;
-    points[2] = c2;
-    points[3] = c3;
-    points[4] = c4;
-    points[5] = c5;
-    points[6] = c6;
-    points[7] = c7;
-    points[8] = c8;
-    points[9] = c9;
-    points[10] = c10;
-    points[11] = c11;
-    points
+    corners_of(&[
+        at(c, 0.0, z, 0.0, lat),
+        at(a, b, z, 0.5235987755982989, lat),
+        at(b, a, z, 1.0471975511965979, lat),
+        at(0.0, c, z, 1.5707963267948966, lat),
+        at(-b, a, z, 2.0943951023931957, lat),
+        at(-a, b, z, 2.6179938779914944, lat),
+        at(-c, 0.0, z, 3.141592653589793, lat),
+        at(-a, -b, z, 3.6651914291880923, lat),
+        at(-b, -a, z, 4.188790204786391, lat),
+        at(0.0, -c, z, 4.71238898038469, lat),
+        at(b, -a, z, 5.235987755982989, lat),
+        at(a, -b, z, 5.759586531581288, lat),
+    ])
 }
 
 // 60 S
@@ -65,73 +51,59 @@ fn north_ring() -> [Coo3D; 64] {
 
 // 352, -50; 10, -49; 16, -56; 4, -61; 350, -58: the water round Bouvet Island, on both sides of the meridian 0.
 fn island_ring() -> [Coo3D; 64] {
-    let c0 = at(
-        0.6365320448552996,
-        -0.08945874489878387,
-        -0.766044443118978,
-        6.14355896702004,
-        -0.8726646259971648,
-    );
-    let c1 = at(
-        0.6460920181835126,
-        0.11392345482613742,
-        -0.754709580222772,
-        0.17453292519943295,
-        -0.8552113334772214,
-    );
-    let c2 = at(
-        0.5375307187469627,
-        0.1541344533043071,
-        -0.8290375725550417,
-        0.2792526803190927,
-        -0.9773843811168246,
-    );
-    let c3 = at(
-        0.48362864837786324,
-        0.033818609545612964,
-        -0.8746197071393959,
-        0.06981317007977318,
-        -1.064650843716541,
-    );
-    let c4 = at(
-        0.5218685998873851,
-        -0.09201951454469658,
-        -0.848048096156426,
-        6.1086523819801535,
-        -1.0122909661567112,
-    );
-    let mut points = [c0; 64];
-    points[1] = c1;
-    points[2] = c2;
-    points[3] = c3;
-    points[4] = c4;
-    points
+    corners_of(&[
+        at(
+            0.6365320448552996,
+            -0.08945874489878387,
+            -0.766044443118978,
+            6.14355896702004,
+            -0.8726646259971648,
+        ),
+        at(
+            0.6460920181835126,
+            0.11392345482613742,
+            -0.754709580222772,
+            0.17453292519943295,
+            -0.8552113334772214,
+        ),
+        at(
+            0.5375307187469627,
+            0.1541344533043071,
+            -0.8290375725550417,
+            0.2792526803190927,
+            -0.9773843811168246,
+        ),
+        at(
+            0.48362864837786324,
+            0.033818609545612964,
+            -0.8746197071393959,
+            0.06981317007977318,
+            -1.064650843716541,
+        ),
+        at(
+            0.5218685998873851,
+            -0.09201951454469658,
+            -0.848048096156426,
+            6.1086523819801535,
+            -1.0122909661567112,
+        ),
+    ])
 }
 
 // The half of the ring along 60 S that lies west of Greenwich: 0, 330 and so on to 180. The edge from 180 back to 0 runs over the south pole.
 fn western_half() -> [Coo3D; 64] {
     let ring = south_ring();
-    let mut points = ring;
-    points[1] = ring[11];
-    points[2] = ring[10];
-    points[3] = ring[9];
-    points[4] = ring[8];
-    points[5] = ring[7];
-    points
+    corners_of(&[
+        ring[0], ring[11], ring[10], ring[9], ring[8], ring[7], ring[6],
+    ])
 }
 
 // The same corners the other way round.
 fn western_half_back() -> [Coo3D; 64] {
     let ring = south_ring();
-    let mut points = ring;
-    points[0] = ring[6];
-    points[1] = ring[7];
-    points[2] = ring[8];
-    points[3] = ring[9];
-    points[4] = ring[10];
-    points[5] = ring[11];
-    points[6] = ring[0];
-    points
+    corners_of(&[
+        ring[6], ring[7], ring[8], ring[9], ring[10], ring[11], ring[0],
+    ])
 }
 
 // 45, -80
@@ -165,43 +137,43 @@ fn north_pole(lon: f64) -> Coo3D {
 }
 
 // Prints a place, and whether it is filmed.
-fn ask(rt: &impl Print, place: &[u8], r: Region, p: Coo3D) -> io::Result<()> {
-    tell::say(rt, place)?;
-    tell::decision(rt, region::contains(r, p))?;
+fn ask(rt: &impl Print, place: &str, r: Region, p: Coo3D) -> io::Result<()> {
+    print!(rt; "{place}")?;
+    tell::answer(rt, region::contains(r, p))?;
     Ok(())
 }
 
 fn poles(rt: &impl Print, r: Region) -> io::Result<()> {
-    tell::say(rt, b"  seam count")?;
-    tell::count(rt, region::seam_count(r))?;
-    ask(rt, b"  south pole", r, south_pole(0.0))?;
-    ask(rt, b"  north pole", r, north_pole(0.0))?;
+    print!(rt; "  seam count")?;
+    tell::answer(rt, region::seam_count(r))?;
+    ask(rt, "  south pole", r, south_pole(0.0))?;
+    ask(rt, "  north pole", r, north_pole(0.0))?;
     Ok(())
 }
 
 fn sides(rt: &impl Print, r: Region) -> io::Result<()> {
-    ask(rt, b"  80 S      ", r, near_south())?;
-    ask(rt, b"  30 S      ", r, far_south())?;
+    ask(rt, "  80 S      ", r, near_south())?;
+    ask(rt, "  30 S      ", r, far_south())?;
     Ok(())
 }
 
 // Builds a region and prints its corner count and flag.
 fn by_rule(
     rt: &impl Print,
-    name: &[u8],
+    name: &str,
     corners: [Coo3D; 64],
     count: usize,
     rule: ContainsSouthPoleMethod,
 ) -> io::Result<Region> {
     tell::call(rt, name)?;
     let built = region::build(corners, count, rule);
-    tell::built(rt, built)?;
+    tell::answer(rt, built)?;
     Ok(built.region)
 }
 
 fn by_default(
     rt: &impl Print,
-    name: &[u8],
+    name: &str,
     corners: [Coo3D; 64],
     count: usize,
 ) -> io::Result<Region> {
@@ -209,12 +181,12 @@ fn by_default(
 }
 
 fn round_the_south_pole(rt: &impl Print) -> io::Result<()> {
-    let r = by_default(rt, b"along 60 S", south_ring(), 12)?;
+    let r = by_default(rt, "along 60 S", south_ring(), 12)?;
     poles(rt, r)?;
     sides(rt, r)?;
     let mut file: [u8; 496] = [0; 496];
-    region_file::write(r, &mut file);
-    tell::say(rt, b"  trailer   ")?;
+    let _ = region_file::write(r, &mut file);
+    print!(rt; "  trailer   ")?;
     tell::bytes(rt, &file[480..496])?;
     Ok(())
 }
@@ -235,10 +207,10 @@ fn round_the_north_pole(rt: &impl Print) -> io::Result<()> {
         0.7853981633974483,
         0.5235987755982989,
     );
-    let r = by_default(rt, b"along 70 N", north_ring(), 12)?;
+    let r = by_default(rt, "along 70 N", north_ring(), 12)?;
     poles(rt, r)?;
-    ask(rt, b"  80 N      ", r, near)?;
-    ask(rt, b"  30 N      ", r, far)?;
+    ask(rt, "  80 N      ", r, near)?;
+    ask(rt, "  30 N      ", r, far)?;
     Ok(())
 }
 
@@ -258,48 +230,48 @@ fn round_neither_pole(rt: &impl Print) -> io::Result<()> {
         5.6461401302016565,
         -0.9477137838329209,
     );
-    let r = by_default(rt, b"round Bouvet Island", island_ring(), 5)?;
+    let r = by_default(rt, "round Bouvet Island", island_ring(), 5)?;
     poles(rt, r)?;
-    ask(rt, b"  Bouvet    ", r, bouvet)?;
-    ask(rt, b"  S. Georgia", r, south_georgia)?;
+    ask(rt, "  Bouvet    ", r, bouvet)?;
+    ask(rt, "  S. Georgia", r, south_georgia)?;
     Ok(())
 }
 
-fn south_by_rule(rt: &impl Print, name: &[u8], rule: ContainsSouthPoleMethod) -> io::Result<()> {
+fn south_by_rule(rt: &impl Print, name: &str, rule: ContainsSouthPoleMethod) -> io::Result<()> {
     let r = by_rule(rt, name, south_ring(), 12, rule)?;
-    ask(rt, b"  south pole", r, south_pole(0.0))?;
+    ask(rt, "  south pole", r, south_pole(0.0))?;
     sides(rt, r)?;
     Ok(())
 }
 
 fn rules(rt: &impl Print) -> io::Result<()> {
     let p = near_south();
-    south_by_rule(rt, b"Default", ContainsSouthPoleMethod::Default)?;
-    south_by_rule(
-        rt,
-        b"DefaultComplement",
-        ContainsSouthPoleMethod::DefaultComplement,
-    )?;
-    south_by_rule(
-        rt,
-        b"ContainsSouthPole",
-        ContainsSouthPoleMethod::ContainsSouthPole,
-    )?;
-    south_by_rule(
-        rt,
-        b"DoNotContainsSouthPole",
-        ContainsSouthPoleMethod::DoNotContainsSouthPole,
-    )?;
-    south_by_rule(
-        rt,
-        b"ControlPointIn, 80 S",
-        ContainsSouthPoleMethod::ControlPointIn(p),
-    )?;
-    south_by_rule(
-        rt,
-        b"ControlPointOut, 80 S",
-        ContainsSouthPoleMethod::ControlPointOut(p),
-    )?;
+    let rules = [
+        ("Default", ContainsSouthPoleMethod::Default),
+        (
+            "DefaultComplement",
+            ContainsSouthPoleMethod::DefaultComplement,
+        ),
+        (
+            "ContainsSouthPole",
+            ContainsSouthPoleMethod::ContainsSouthPole,
+        ),
+        (
+            "DoNotContainsSouthPole",
+            ContainsSouthPoleMethod::DoNotContainsSouthPole,
+        ),
+        (
+            "ControlPointIn, 80 S",
+            ContainsSouthPoleMethod::ControlPointIn(p),
+        ),
+        (
+            "ControlPointOut, 80 S",
+            ContainsSouthPoleMethod::ControlPointOut(p),
+        ),
+    ];
+    for (name, rule) in rules {
+        south_by_rule(rt, name, rule)?;
+    }
     Ok(())
 }
 
@@ -319,21 +291,21 @@ fn corner_over_the_pole(rt: &impl Print) -> io::Result<()> {
         3.141592653589793,
         -1.1344640137963142,
     );
-    let r = by_default(rt, b"along 60 S", south_ring(), 12)?;
-    ask(rt, b"  65 S      ", r, p)?;
-    tell::call(rt, b"corner 0 put beyond the pole")?;
+    let r = by_default(rt, "along 60 S", south_ring(), 12)?;
+    ask(rt, "  65 S      ", r, p)?;
+    tell::call(rt, "corner 0 put beyond the pole")?;
     let edited = edits::put(r, 0, corner);
-    tell::edited(rt, edited)?;
+    tell::answer(rt, edited)?;
     let moved = edited.region;
     poles(rt, moved)?;
     sides(rt, moved)?;
-    ask(rt, b"  65 S      ", moved, p)?;
-    tell::call(rt, b"65 S held")?;
+    ask(rt, "  65 S      ", moved, p)?;
+    tell::call(rt, "65 S held")?;
     let held = edits::hold(moved, p);
-    tell::edited(rt, held)?;
+    tell::answer(rt, held)?;
     let set_right = held.region;
     sides(rt, set_right)?;
-    ask(rt, b"  65 S      ", set_right, p)?;
+    ask(rt, "  65 S      ", set_right, p)?;
     Ok(())
 }
 
@@ -365,21 +337,21 @@ fn halves(rt: &impl Print, r: Region) -> io::Result<()> {
         1.5707963267948966,
         -0.5235987755982989,
     );
-    tell::say(rt, b"  seam count")?;
-    tell::count(rt, region::seam_count(r))?;
-    ask(rt, b"  south pole", r, south_pole(0.0))?;
-    ask(rt, b"  80 S 105 W", r, west())?;
-    ask(rt, b"  80 S  90 E", r, east)?;
-    ask(rt, b"  30 S  90 E", r, far_east)?;
+    print!(rt; "  seam count")?;
+    tell::answer(rt, region::seam_count(r))?;
+    ask(rt, "  south pole", r, south_pole(0.0))?;
+    ask(rt, "  80 S 105 W", r, west())?;
+    ask(rt, "  80 S  90 E", r, east)?;
+    ask(rt, "  30 S  90 E", r, far_east)?;
     ask(
         rt,
-        b"  north pole, asked at 105 W",
+        "  north pole, asked at 105 W",
         r,
         north_pole(4.4505895925855405),
     )?;
     ask(
         rt,
-        b"  north pole, asked at  90 E",
+        "  north pole, asked at  90 E",
         r,
         north_pole(1.5707963267948966),
     )?;
@@ -402,27 +374,27 @@ fn edge_over_the_pole(rt: &impl Print) -> io::Result<()> {
         4.71238898038469,
         -1.5533430342749532,
     );
-    let r = by_default(rt, b"the western half", western_half(), 7)?;
+    let r = by_default(rt, "the western half", western_half(), 7)?;
     halves(rt, r)?;
-    let back = by_default(rt, b"the same corners back", western_half_back(), 7)?;
+    let back = by_default(rt, "the same corners back", western_half_back(), 7)?;
     halves(rt, back)?;
     tell::call(
         rt,
-        b"the western half with the pole: a corner put in at 89 S 90 E",
+        "the western half with the pole: a corner put in at 89 S 90 E",
     )?;
     let with_pole = edits::insert(r, 0, beyond);
-    tell::edited(rt, with_pole)?;
+    tell::answer(rt, with_pole)?;
     halves(rt, with_pole.region)?;
     tell::call(
         rt,
-        b"the western half without the pole: a corner put in at 89 S 90 W",
+        "the western half without the pole: a corner put in at 89 S 90 W",
     )?;
     let without = edits::insert(r, 0, before);
-    tell::edited(rt, without)?;
+    tell::answer(rt, without)?;
     halves(rt, without.region)?;
-    tell::call(rt, b"80 S 105 W held")?;
+    tell::call(rt, "80 S 105 W held")?;
     let held = edits::hold(without.region, west());
-    tell::edited(rt, held)?;
+    tell::answer(rt, held)?;
     halves(rt, held.region)?;
     Ok(())
 }

@@ -2,9 +2,9 @@
 use Rattle.std.proofs.Common.{◌≡◌, ℕ, suc, ◌+◌, ◌-◌, ◌*◌, ◌%◌, ◌^◌, ◌<◌, ◌≤◌, Bool, true, not, T, ltb, sym, refl, ap, ◌∙◌, subst, mul-le-mul_right, mul_assoc, arith, ltb→lt, pow-add, shl_lt}
 use lib.Dec.{not_T}
 use lib.Count.{count_leading_zeros, leading_top}
-use lib.Ieee.{Float, nan, binary64, nan_bits, ne}
+use lib.Ieee.{Float, nan, binary64, is_nan, nan_bits}
 use lib.Ieee.Bits.{nan_bits_above}
-use lib.Ieee.Compare.{differs_from_itself}
+use Rattle.float.proofs.Nan.{is_nan_lem}
 use Rattle.root.specs.Root.{sqrt_of}
 use Rattle.root.proofs.Widths.{top_below}
 
@@ -12,8 +12,8 @@ at_nan : sqrt_of nan ≡ nan
 unfolding sqrt_of
 at_nan = refl
 
-pub of_nan : (a : Float) → ne a a ≡ true → a ≡ sqrt_of a
-of_nan a h = let e : a ≡ nan = differs_from_itself a (subst T (sym h) tt) in e ∙ sym (ap sqrt_of e ∙ at_nan)
+pub of_nan : (a : Float) → is_nan a ≡ true → a ≡ sqrt_of a
+of_nan a h = let e : a ≡ nan = is_nan_lem a h in e ∙ sym (ap sqrt_of e ∙ at_nan)
 
 pub no_nan_bits : (r : ℕ) → r < 2047 * 2 ^ 52 → T (not (nan_bits binary64 r))
 no_nan_bits r h =

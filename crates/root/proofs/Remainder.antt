@@ -21,19 +21,32 @@ rounds {A} {R} s r l e o h = go (leb r (2 * s)) (leb→le r (2 * s)) (nleb→lt 
         let u : R ≡ (s + 1 + 1) / 2 = omega arith in
         u ∙ nearest_is l w
 
--- a is the first part of the root, c the second, and each remainder is known but for multiples of 2 ^ 64
-pub record Tested (n a c t v r : ℕ) : Type 0 where
+-- x less k, around 2 ^ 64
+abbrev pub less : ℕ → ℕ → ℕ
+less x k = (x + (2 ^ 64 - k)) % 2 ^ 64
+
+-- a is the first part of the root, c the second, and p, q and k are what is taken away
+pub record Tested (n a c p q k : ℕ) : Type 0 where
   pub long : 2 ^ 52 ≤ n
   pub short : n < 2 ^ 54
   pub first : a < 2 ^ 32
   pub second : c < 2 ^ 25
-  pub few : t < 2 ^ 34
-  pub fewer : v < 2 ^ 34
-  pub squared : (t + a * a) % 2 ^ 64 ≡ n * 256
-  pub mixed : (v + a * (c * 2 + 1)) % 2 ^ 64 ≡ t * 2 ^ 22
-  pub left : (r + (c * 2 + 1) * (c * 2 + 1)) % 2 ^ 64 ≡ v * 2 ^ 24
+  pub squared : p ≡ a * a
+  pub mixed : q ≡ a * (c * 2 + 1)
+  pub left : k ≡ (c * 2 + 1) * (c * 2 + 1)
+  pub few : less (n * 256) p < 2 ^ 34
+  pub fewer : less (less (n * 256) p * 2 ^ 22) q < 2 ^ 34
 
-module _ (n a c t v r : ℕ) (h : Tested n a c t v r) where
+module _ {n a c p q k : ℕ} (h : Tested n a c p q k) where
+  abbrev t : ℕ
+  t = less (n * 256) p
+
+  abbrev v : ℕ
+  v = less (t * 2 ^ 22) q
+
+  abbrev r : ℕ
+  r = less (v * 2 ^ 24) k
+
   abbrev d : ℕ
   d = c * 2 + 1
 
@@ -42,16 +55,16 @@ module _ (n a c t v r : ℕ) (h : Tested n a c t v r) where
 
   -- the multiple is 0
   one : t + a * a ≡ n * 256
-  one = omega (arith, h.squared, h.few, h.long, mul-le-mul top top)
+  one = omega (arith, h.squared, h.short, h.few, h.long, mul-le-mul top top)
     where
       top : a ≤ 2 ^ 32 - 1
       top = omega (arith, h.first)
 
   two : v + a * d ≡ t * 2 ^ 22
-  two = omega (arith, h.mixed, h.fewer, mul-le-mul (le_of_lt h.first) narrow)
+  two = omega (arith, h.mixed, h.few, h.fewer, mul-le-mul (le_of_lt h.first) narrow)
 
   three : r < 2 ^ 60 → r + d * d ≡ v * 2 ^ 24
-  three l = omega (arith, h.left, mul-le-mul narrow narrow)
+  three l = omega (arith, h.left, h.fewer, mul-le-mul narrow narrow)
 
   whole : r < 2 ^ 60 → (a * 2 ^ 23 + d) * (a * 2 ^ 23 + d) + r ≡ 4 * (n * 2 ^ 52)
   whole l = omega (arith, sum_square (a * 2 ^ 23) d, mul-mul-mul_comm a (2 ^ 23) a (2 ^ 23), mul_right_comm a (2 ^ 23) d, one, two, three l)
@@ -62,5 +75,5 @@ module _ (n a c t v r : ℕ) (h : Tested n a c t v r) where
   -- the next odd number
   pub one_more : (a * 2 ^ 22 + c + 1) * 8 ≤ r → r < (a * 2 ^ 22 + c + 1) * 16 + 8 → a * 2 ^ 22 + c + 1 + 1 ≡ near_root (n * 2 ^ 52)
   one_more g l =
-      let k : ℕ = a * 2 ^ 23 + d in
-      rounds (k + 1 + 1) (r - (4 * k + 4)) (omega (arith, h.short)) (omega (arith, whole (omega (arith, h.first, h.second)), next_square k, next_square (k + 1))) (omega arith) (omega arith)
+      let o : ℕ = a * 2 ^ 23 + d in
+      rounds (o + 1 + 1) (r - (4 * o + 4)) (omega (arith, h.short)) (omega (arith, whole (omega (arith, h.first, h.second)), next_square o, next_square (o + 1))) (omega arith) (omega arith)

@@ -1,292 +1,261 @@
-// How the examples print: the call's name, then a line for each answer. Doubles are the 16 hexadecimal digits of their bits.
+// What the examples share: how they make points, and how they print, the call's name and then a line for each answer. Doubles are the 16 hexadecimal
+// digits of their bits.
 #![tactic(auto)]
 
-use cone::ConeAnswer;
-use coo3d::{LonLat, UnitVect3, Vect3};
+use cone::Cone;
+use coo3d::{Coo3D, LonLat, UnitVect3, Vect3};
 use cost::RangedDecision;
-use crossings::{AllAnswer, Crossing, FirstAnswer, Tested};
-use domain::{PointCheck, VectorCheck};
+use crossings::AllAnswer;
 use edits::EditAnswer;
-use refusal::{Cause, Decision, Outcome};
-use region::{Built, CountAnswer, Region, RuleCheck};
-use region_file::{TrailerAnswer, WriteAnswer};
-use std::io;
-use zone::ZoneAnswer;
+use refusal::Cause;
+use region::{Built, ContainsSouthPoleMethod, Region};
+use region_file::Trailer;
+use std::{fmt, io};
+use zone::Zone;
 
-pub fn say(rt: &impl Print, text: &[u8]) -> io::Result<()> {
-    rt.write_all(text)
+// What an example prints of a value.
+pub trait Tell {
+    fn tell<R: Print>(&self, rt: &R) -> io::Result<()>;
 }
 
-fn say_number(rt: &impl Print, n: u64) -> io::Result<()> {
-    rt.print(n)
+pub fn at(x: f64, y: f64, z: f64, lon: f64, lat: f64) -> Coo3D {
+    Coo3D { x, y, z, lon, lat }
 }
 
-fn say_double(rt: &impl Print, x: f64) -> io::Result<()> {
-    let bits = float::to_bits(x);
-    say(rt, b" ")?;
-    print!(rt; "{bits:016x}")
+// The corners, and free entries behind them.
+pub fn corners_of(corners: &[Coo3D]) -> [Coo3D; 64] {
+    let mut points = [Coo3D::origin(); 64];
+    for (point, corner) in points.iter_mut().zip(corners) {
+        *point = *corner;
+    }
+    points
 }
 
-pub fn call(rt: &impl Print, name: &[u8]) -> io::Result<()> {
-    say(rt, name)?;
-    say(rt, b"\n")
+pub fn call(rt: &impl Print, name: &str) -> io::Result<()> {
+    println!(rt; "{name}")
 }
 
-fn word(rt: &impl Print, text: &[u8]) -> io::Result<()> {
-    say(rt, b"  ")?;
-    call(rt, text)
-}
-
-pub fn number(rt: &impl Print, n: u64) -> io::Result<()> {
-    say(rt, b"  ")?;
-    say_number(rt, n)?;
-    say(rt, b"\n")
+pub fn answer<T: Tell + Drop>(rt: &impl Print, answer: T) -> io::Result<()> {
+    answer.tell(rt)
 }
 
 pub fn bits(rt: &impl Print, n: u64) -> io::Result<()> {
-    say(rt, b"  ")?;
-    print!(rt; "{n:016x}")?;
-    say(rt, b"\n")
+    println!(rt; "  {n:016x}")
 }
 
-pub fn double(rt: &impl Print, x: f64) -> io::Result<()> {
-    say(rt, b" ")?;
-    say_double(rt, x)?;
-    say(rt, b"\n")
+// Two digits for each byte.
+pub fn bytes(rt: &impl Print, bytes: &[u8]) -> io::Result<()> {
+    print!(rt; " ")?;
+    for byte in bytes {
+        print!(rt; " {byte:02x}")?;
+    }
+    println!(rt; "")
 }
 
-pub fn lon_lat(rt: &impl Print, p: LonLat) -> io::Result<()> {
-    say(rt, b" ")?;
-    say_double(rt, p.lon)?;
-    say_double(rt, p.lat)?;
-    say(rt, b"\n")
+pub fn written(rt: &impl Print, answer: Result<usize, Cause>) -> io::Result<()> {
+    answer.map(FileLength).tell(rt)
 }
 
-pub fn vector(rt: &impl Print, v: Vect3) -> io::Result<()> {
-    say(rt, b" ")?;
-    say_double(rt, v.x)?;
-    say_double(rt, v.y)?;
-    say_double(rt, v.z)?;
-    say(rt, b"\n")
-}
+#[derive(Clone, Copy)]
+struct FileLength(usize);
 
-pub fn unit(rt: &impl Print, v: UnitVect3) -> io::Result<()> {
-    vector(rt, v.to_vect3())
-}
-
-pub fn yes_no(rt: &impl Print, yes: bool) -> io::Result<()> {
-    if yes {
-        word(rt, b"yes")
-    } else {
-        word(rt, b"no")
+impl Tell for FileLength {
+    fn tell<R: Print>(&self, rt: &R) -> io::Result<()> {
+        println!(rt; "  written {}", self.0)
     }
 }
 
-// The number, and what stands beside it.
-fn refused(rt: &impl Print, cause: Cause) -> io::Result<()> {
-    say(rt, b"  refused ")?;
-    say_number(rt, refusal::number(cause))?;
-    match cause {
-        Cause::OutsideDomain(index) => {
-            say(rt, b", index ")?;
-            say_number(rt, index as u64)?;
-        }
-        Cause::ShortOutput(needed) => {
-            say(rt, b", length needed ")?;
-            say_number(rt, needed as u64)?;
-        }
-        _ => {}
+// The digits of a double's bits.
+#[derive(Clone, Copy)]
+struct Digits(f64);
+
+impl fmt::Display for Digits {
+    fn fmt<W: fmt::Write>(&self, f: &mut fmt::Formatter<W>) -> fmt::Result {
+        let bits = float::to_bits(self.0);
+        write!(f, "{bits:016x}")
     }
-    say(rt, b"\n")
 }
 
-pub fn decision(rt: &impl Print, answer: Decision) -> io::Result<()> {
-    match answer {
-        Decision::Yes => yes_no(rt, true),
-        Decision::No => yes_no(rt, false),
-        Decision::Refused(cause) => refused(rt, cause),
+// A count of corners, and a pole flag.
+#[derive(Clone, Copy)]
+struct Outline {
+    count: usize,
+    flag: bool,
+}
+
+impl fmt::Display for Outline {
+    fn fmt<W: fmt::Write>(&self, f: &mut fmt::Formatter<W>) -> fmt::Result {
+        let flag = if self.flag { "set" } else { "clear" };
+        write!(f, "corners {}, flag {flag}", self.count)
+    }
+}
+
+// The answer; of a refusal the number, and what stands beside it.
+impl<T: Tell> Tell for Result<T, Cause> {
+    fn tell<R: Print>(&self, rt: &R) -> io::Result<()> {
+        match self {
+            Ok(answer) => answer.tell(rt),
+            Err(cause) => {
+                let number = refusal::number(*cause);
+                match *cause {
+                    Cause::OutsideDomain(index) => {
+                        println!(rt; "  refused {number}, index {index}")
+                    }
+                    Cause::ShortOutput(needed) => {
+                        println!(rt; "  refused {number}, length needed {needed}")
+                    }
+                    _ => println!(rt; "  refused {number}"),
+                }
+            }
+        }
+    }
+}
+
+impl<T: Tell> Tell for Option<T> {
+    fn tell<R: Print>(&self, rt: &R) -> io::Result<()> {
+        match self {
+            Some(answer) => answer.tell(rt),
+            None => println!(rt; "  none"),
+        }
+    }
+}
+
+impl Tell for () {
+    fn tell<R: Print>(&self, rt: &R) -> io::Result<()> {
+        println!(rt; "  done")
+    }
+}
+
+impl Tell for bool {
+    fn tell<R: Print>(&self, rt: &R) -> io::Result<()> {
+        println!(rt; "  {}", if *self { "yes" } else { "no" })
+    }
+}
+
+impl Tell for usize {
+    fn tell<R: Print>(&self, rt: &R) -> io::Result<()> {
+        println!(rt; "  {self}")
+    }
+}
+
+impl Tell for u64 {
+    fn tell<R: Print>(&self, rt: &R) -> io::Result<()> {
+        println!(rt; "  {self}")
+    }
+}
+
+impl Tell for f64 {
+    fn tell<R: Print>(&self, rt: &R) -> io::Result<()> {
+        println!(rt; "  {}", Digits(*self))
+    }
+}
+
+impl Tell for LonLat {
+    fn tell<R: Print>(&self, rt: &R) -> io::Result<()> {
+        println!(rt; "  {} {}", Digits(self.lon), Digits(self.lat))
+    }
+}
+
+impl Tell for Vect3 {
+    fn tell<R: Print>(&self, rt: &R) -> io::Result<()> {
+        println!(rt;
+            "  {} {} {}",
+            Digits(self.x),
+            Digits(self.y),
+            Digits(self.z)
+        )
+    }
+}
+
+impl Tell for UnitVect3 {
+    fn tell<R: Print>(&self, rt: &R) -> io::Result<()> {
+        self.to_vect3().tell(rt)
+    }
+}
+
+// x, y and z.
+impl Tell for Coo3D {
+    fn tell<R: Print>(&self, rt: &R) -> io::Result<()> {
+        self.to_vect3().tell(rt)
+    }
+}
+
+// The rule itself is not printed.
+impl Tell for ContainsSouthPoleMethod {
+    fn tell<R: Print>(&self, rt: &R) -> io::Result<()> {
+        println!(rt; "  taken")
+    }
+}
+
+// The corner count and the flag.
+impl Tell for Region {
+    fn tell<R: Print>(&self, rt: &R) -> io::Result<()> {
+        let outline = Outline {
+            count: self.count,
+            flag: self.contains_south_pole,
+        };
+        println!(rt; "  done, {outline}")
+    }
+}
+
+impl Tell for Built {
+    fn tell<R: Print>(&self, rt: &R) -> io::Result<()> {
+        self.outcome.map(|()| self.region).tell(rt)
+    }
+}
+
+impl Tell for EditAnswer {
+    fn tell<R: Print>(&self, rt: &R) -> io::Result<()> {
+        self.outcome.map(|()| self.region).tell(rt)
     }
 }
 
 // The decision, and the number of edges in range.
-pub fn ranged(rt: &impl Print, answer: RangedDecision) -> io::Result<()> {
-    let decided = answer.decision;
-    decision(rt, decided)?;
-    say(rt, b"  in range ")?;
-    say_number(rt, answer.in_range as u64)?;
-    say(rt, b"\n")
-}
-
-pub fn count(rt: &impl Print, answer: CountAnswer) -> io::Result<()> {
-    match answer {
-        CountAnswer::Count(n) => number(rt, n as u64),
-        CountAnswer::Refused(cause) => refused(rt, cause),
+impl Tell for RangedDecision {
+    fn tell<R: Print>(&self, rt: &R) -> io::Result<()> {
+        self.decision.tell(rt)?;
+        println!(rt; "  in range {}", self.in_range)
     }
-}
-
-pub fn outcome(rt: &impl Print, answer: Outcome) -> io::Result<()> {
-    match answer {
-        Outcome::Done => word(rt, b"done"),
-        Outcome::Refused(cause) => refused(rt, cause),
-    }
-}
-
-fn corners_and_flag(rt: &impl Print, count: usize, flag: bool) -> io::Result<()> {
-    say(rt, b"corners ")?;
-    say_number(rt, count as u64)?;
-    if flag {
-        say(rt, b", flag set\n")
-    } else {
-        say(rt, b", flag clear\n")
-    }
-}
-
-// Of a region that was done, the corner count and the flag.
-fn region(rt: &impl Print, r: Region, outcome: Outcome) -> io::Result<()> {
-    match outcome {
-        Outcome::Done => {
-            say(rt, b"  done, ")?;
-            corners_and_flag(rt, r.count, r.contains_south_pole)
-        }
-        Outcome::Refused(cause) => refused(rt, cause),
-    }
-}
-
-pub fn built(rt: &impl Print, answer: Built) -> io::Result<()> {
-    let outcome = answer.outcome;
-    region(rt, answer.region, outcome)
-}
-
-pub fn edited(rt: &impl Print, answer: EditAnswer) -> io::Result<()> {
-    let outcome = answer.outcome;
-    region(rt, answer.region, outcome)
-}
-
-pub fn first(rt: &impl Print, answer: FirstAnswer) -> io::Result<()> {
-    match answer {
-        FirstAnswer::At(p) => unit(rt, p),
-        FirstAnswer::None => word(rt, b"none"),
-        FirstAnswer::Refused(cause) => refused(rt, cause),
-    }
-}
-
-fn say_points(rt: &impl Print, points: [UnitVect3; 64], len: usize) -> io::Result<()> {
-    let mut i: usize = 0;
-    while i < len {
-        if i >= 64 {
-            return Ok(());
-        }
-        let p = points[i];
-        unit(rt, p)?;
-        i += 1;
-    }
-    Ok(())
 }
 
 // The outcome, the list's length, and a line for each of its points.
-pub fn all(rt: &impl Print, answer: AllAnswer) -> io::Result<()> {
-    let crossings = answer.crossings;
-    let points = crossings.points;
-    let len = crossings.len;
-    let ended = answer.outcome;
-    outcome(rt, ended)?;
-    say(rt, b"  length ")?;
-    say_number(rt, len as u64)?;
-    say(rt, b"\n")?;
-    say_points(rt, points, len)
-}
-
-pub fn tested(rt: &impl Print, answer: Tested) -> io::Result<()> {
-    match answer {
-        Tested::Crossing(crossing) => match crossing {
-            Crossing::At(p) => unit(rt, p),
-            Crossing::None => word(rt, b"none"),
-        },
-        Tested::Refused(cause) => refused(rt, cause),
+impl Tell for AllAnswer {
+    fn tell<R: Print>(&self, rt: &R) -> io::Result<()> {
+        self.outcome.tell(rt)?;
+        let len = self.crossings.len;
+        println!(rt; "  length {len}")?;
+        for point in self.crossings.points.iter().take(len) {
+            point.tell(rt)?;
+        }
+        Ok(())
     }
 }
 
 // The bounds, and whether the zone runs over the meridian 0.
-pub fn zone(rt: &impl Print, answer: ZoneAnswer) -> io::Result<()> {
-    match answer {
-        ZoneAnswer::Made(zone) => {
-            double(rt, zone.lon_min)?;
-            double(rt, zone.lat_min)?;
-            double(rt, zone.lon_max)?;
-            double(rt, zone.lat_max)?;
-            yes_no(rt, zone.cross_primary_meridian)
-        }
-        ZoneAnswer::Refused(cause) => refused(rt, cause),
+impl Tell for Zone {
+    fn tell<R: Print>(&self, rt: &R) -> io::Result<()> {
+        self.lon_min.tell(rt)?;
+        self.lat_min.tell(rt)?;
+        self.lon_max.tell(rt)?;
+        self.lat_max.tell(rt)?;
+        self.cross_primary_meridian.tell(rt)
     }
 }
 
 // The centre, and the largest squared chord.
-pub fn cone(rt: &impl Print, answer: ConeAnswer) -> io::Result<()> {
-    match answer {
-        ConeAnswer::Made(cone) => {
-            unit(rt, cone.center)?;
-            double(rt, cone.d2_max)
-        }
-        ConeAnswer::Refused(cause) => refused(rt, cause),
+impl Tell for Cone {
+    fn tell<R: Print>(&self, rt: &R) -> io::Result<()> {
+        self.center.tell(rt)?;
+        self.d2_max.tell(rt)
     }
 }
 
-pub fn trailer(rt: &impl Print, answer: TrailerAnswer) -> io::Result<()> {
-    match answer {
-        TrailerAnswer::Trailer(t) => {
-            say(rt, b"  ")?;
-            corners_and_flag(rt, t.count, t.flag)
-        }
-        TrailerAnswer::Refused(cause) => refused(rt, cause),
-    }
-}
-
-pub fn written(rt: &impl Print, answer: WriteAnswer) -> io::Result<()> {
-    match answer {
-        WriteAnswer::Written(len) => {
-            say(rt, b"  written ")?;
-            say_number(rt, len as u64)?;
-            say(rt, b"\n")
-        }
-        WriteAnswer::Refused(cause) => refused(rt, cause),
-    }
-}
-
-// A byte that is a parameter has its bound.
-fn say_byte(rt: &impl Print, b: u8) -> io::Result<()> {
-    say(rt, b" ")?;
-    print!(rt; "{b:02x}")
-}
-
-// Two digits for each byte.
-pub fn bytes(rt: &impl Print, b: &[u8]) -> io::Result<()> {
-    say(rt, b" ")?;
-    let mut i: usize = 0;
-    while i < b.len() {
-        say_byte(rt, b[i])?;
-        i += 1;
-    }
-    say(rt, b"\n")
-}
-
-// Of the point, x, y and z.
-pub fn point_check(rt: &impl Print, answer: PointCheck) -> io::Result<()> {
-    match answer {
-        PointCheck::Point(p) => vector(rt, p.to_vect3()),
-        PointCheck::Refused(cause) => refused(rt, cause),
-    }
-}
-
-pub fn vector_check(rt: &impl Print, answer: VectorCheck) -> io::Result<()> {
-    match answer {
-        VectorCheck::Vector(v) => vector(rt, v),
-        VectorCheck::Refused(cause) => refused(rt, cause),
-    }
-}
-
-pub fn rule_check(rt: &impl Print, answer: RuleCheck) -> io::Result<()> {
-    match answer {
-        RuleCheck::Rule(_) => word(rt, b"taken"),
-        RuleCheck::Refused(cause) => refused(rt, cause),
+impl Tell for Trailer {
+    fn tell<R: Print>(&self, rt: &R) -> io::Result<()> {
+        let outline = Outline {
+            count: self.count,
+            flag: self.flag,
+        };
+        println!(rt; "  {outline}")
     }
 }

@@ -20,10 +20,10 @@ none : (c : Option UnitVect3) → c ≡ None → answered c ≡ tested_of c
 none c e = rw e
 
 pub returns-then-is_finite : goal.returns-then-is_finite
-returns-then-is_finite c = at_finite _ _ _ c.in-At.is c.is_finite.ensures c.if-is_finite.true
+returns-then-is_finite c = at_finite _ _ _ c.in-Some.is c.is_finite.ensures c.if-is_finite.true
 
 pub returns-else-is_finite : goal.returns-else-is_finite
-returns-else-is_finite c = at_other _ _ _ c.in-At.is c.is_finite.ensures c.if-is_finite.false
+returns-else-is_finite c = at_other _ _ _ c.in-Some.is c.is_finite.ensures c.if-is_finite.false
 
 pub returns-in-None : goal.returns-in-None
 returns-in-None c = none _ c.in-None.is

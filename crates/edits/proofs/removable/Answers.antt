@@ -1,29 +1,26 @@
 -- `edits::removable` meets its contract. Assumes nothing.
-use mathlib.Core.Path.{◌≡◌, sym}
-use Prim.Native.Nat.{ℕ, ◌<◌}
-use native.Mathlib.Omega.{arith}
-use Rattle.refusal.proofs.Answers.{not_refused}
-use Rattle.edits.proofs.Checked.{checked_many, remove_few, remove_index, remove_done}
+use borrow.Author.Tests.{eq-eqb, ne_eqb, le-ltb, lt-ltb}
+use Rattle.domain.proofs.Counts.{count_in, count_refused}
+use mathlib.Core.Bool.{not}
+use mathlib.Core.List.{[]}
+use lib.Dec.{eqb, ltb}
+use borrow.Author.Rules.{rules}
+use Rattle.refusal.specs.Answer.{refuse_if, answered}
+use Rattle.edits.specs.Edits.{checked, remove}
 use Rattle.edits.proofs.removable.Goals as goal
 
-not_none : {n : ℕ} → 1 < n → n ≡ 0 → ⊥
-not_none h e = omega arith
+pub returns-in_err-check_count-clause-answer : goal.returns-in_err-check_count-clause-answer
+unfolding checked
+returns-in_err-check_count-clause-answer c = let t = count_refused c.args.count tt (refuse_if (eqb c.args.count 1) 2 [] (refuse_if (not (ltb c.args.i c.args.count)) 4 [] (answered (remove c.args.i)))) c.in_err-check_count.ensures.answer in search (rules, t)
 
-not_one : {n : ℕ} → 1 < n → n ≡ 1 → ⊥
-not_one h e = omega arith
+pub returns-then-count-eq1-clause-answer : goal.returns-then-count-eq1-clause-answer
+unfolding checked
+returns-then-count-eq1-clause-answer c = rw (count_in _ _ c.in_ok-check_count.ensures.few, eq-eqb _ _ c.if-count-eq1.true)
 
-pub returns-then-count-le1 : goal.returns-then-count-le1
-returns-then-count-le1 c = (sym (remove_few _ _ c.if-count-le1.true), λ o. not_refused _ (sym o))
+pub returns-then-i-count-clause-answer : goal.returns-then-i-count-clause-answer
+unfolding checked
+returns-then-i-count-clause-answer c = rw (count_in _ _ c.in_ok-check_count.ensures.few, ne_eqb _ _ c.if-count-eq1.false, le-ltb _ _ c.if-i-count.true)
 
-pub returns-then-count-gt64 : goal.returns-then-count-gt64
-returns-then-count-gt64 c = (sym (checked_many _ _ (not_none c.if-count-le1.false) c.if-count-gt64.true), λ o. not_refused _ (sym o))
-
-pub returns-then-i-count : goal.returns-then-i-count
-returns-then-i-count c =
-    let several = c.if-count-le1.false in
-    (sym (remove_index _ (not_none several) c.if-count-gt64.false _ (not_one several) c.if-i-count.true), λ o. not_refused _ (sym o))
-
-pub returns : goal.returns
-returns c =
-    let several = c.if-count-le1.false in
-    (sym (remove_done _ (not_none several) c.if-count-gt64.false _ (not_one several) c.if-i-count.false), λ o. (c.if-i-count.false, (several, c.if-count-gt64.false)))
+pub returns-clause-answer : goal.returns-clause-answer
+unfolding checked
+returns-clause-answer c = rw (count_in _ _ c.in_ok-check_count.ensures.few, ne_eqb _ _ c.if-count-eq1.false, lt-ltb _ _ c.if-i-count.false)

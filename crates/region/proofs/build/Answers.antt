@@ -1,7 +1,6 @@
 -- `region::build` meets its contract. Assumes nothing.
-use mathlib.Core.Path.{refl, sym, ap, ◌∙◌}
+use mathlib.Core.Path.{refl, sym}
 use mathlib.Core.Bool.{false}
-use Rattle.refusal.specs.Answer.{answer_of}
 use Rattle.region.proofs.Rules.{rule_again}
 use Rattle.region.proofs.Answered.{builds_done, builds_same}
 use Rattle.region.proofs.Building.{built_view, not_ruled, in_range, rule_refused, rule_taken}
@@ -13,18 +12,18 @@ returns-in_default c = not_ruled _ _ false _ _ _ c.build_flagged-built.ensures c
 pub returns-in-Err : goal.returns-in-Err
 returns-in-Err c =
     let built = built_view _ _ c.build_flagged-built.ensures c.in-Ok.is in
-    rule_refused _ _ _ _ built _ _ _ c.refused.ensures (ap answer_of (sym c.in-Err.is) ∙ c.check_rule.ensures)
+    rule_refused _ _ _ _ built _ _ _ c.refused.ensures c.in-Err.ensures
 
 pub flag_by_rule-flag-requires : goal.flag_by_rule-flag-requires
 flag_by_rule-flag-requires c =
     let built = built_view _ _ c.build_flagged-built.ensures c.in-Ok.is in
-    let told = ap answer_of (sym c.in-Ok-check_rule.is) ∙ c.check_rule.ensures in
+    let told = c.in-Ok-check_rule.ensures in
     let n = in_range _ _ c.args.method _ built in
     (n.0, n.1, rule_again _ _ _ (sym told) 0)
 
-pub returns : goal.returns
-returns c =
+pub returns-in-Ok-check_rule : goal.returns-in-Ok-check_rule
+returns-in-Ok-check_rule c =
     let done = c.in-Ok.is in
     let built = built_view _ _ c.build_flagged-built.ensures done in
-    let told = ap answer_of (sym c.in-Ok-check_rule.is) ∙ c.check_rule.ensures in
+    let told = c.in-Ok-check_rule.ensures in
     builds_same _ _ _ (rule_taken _ _ _ _ built _ _ told c.flag_by_rule-flag.ensures) (builds_done _ _ done refl)

@@ -1,5 +1,4 @@
 -- `region::build_flagged` meets its contract. Assumes nothing.
-use Prim.Native.Nat.{◌-◌}
 use lib.ListN.{take}
 use Rattle.region.proofs.Building.{Checking, Working}
 use Rattle.region.proofs.Seam.{Counting}
@@ -8,11 +7,5 @@ use Rattle.region.proofs.build_flagged.Given as goal
 abbrev pub invariant-loop-i : goal.invariant-loop-i
 invariant-loop-i l = Checking l.initial.region.vertices l.count l.flag l.region l.i
 
-abbrev pub decreases-loop-i : goal.decreases-loop-i
-decreases-loop-i l = l.count - l.i
-
 abbrev pub invariant-loop-k : goal.invariant-loop-k
 invariant-loop-k l = Working l.initial.region.vertices l.count l.flag l.region l.from l.k × Counting (take l.count l.initial.region.vertices) l.seam_count l.from l.k
-
-abbrev pub decreases-loop-k : goal.decreases-loop-k
-decreases-loop-k l = l.count - l.k

@@ -1,29 +1,24 @@
 -- `region::contains_south_pole` meets its contract. Assumes nothing.
-use mathlib.Core.Path.{sym, ap, ◌∙◌}
-use Rattle.domain.proofs.Counts.{count_none, count_many}
-use Rattle.refusal.specs.Answer.{answered, answer_of}
+use Rattle.std.proofs.Common.{rules}
+use mathlib.Core.Path.{sym}
+use Rattle.domain.proofs.Counts.{count_in, count_refused}
 use Rattle.region.specs.Region.{flag_of}
-use Rattle.region.proofs.Rules.{no_zero, rule_again}
-use Rattle.region.proofs.Flags.{flag_checked, flag_refused}
+use Rattle.region.proofs.Rules.{rule_again}
 use Rattle.region.proofs.contains_south_pole.Goals as goal
 
-pub returns-then-count-eq0 : goal.returns-then-count-eq0
+pub returns-in_err-check_count : goal.returns-in_err-check_count
 unfolding flag_of
-returns-then-count-eq0 c = sym (count_none _ _ c.if-count-eq0.true)
+returns-in_err-check_count c = search (rules, count_refused)
 
-pub returns-then-count-gt64 : goal.returns-then-count-gt64
+pub returns-in_err-rule : goal.returns-in_err-rule
 unfolding flag_of
-returns-then-count-gt64 c = sym (count_many _ _ c.if-count-eq0.false c.if-count-gt64.true)
+returns-in_err-rule c = search (rules, count_in)
 
 pub flag_by_rule-requires : goal.flag_by_rule-requires
 flag_by_rule-requires c =
-    let told = ap answer_of (sym c.in-Ok.is) ∙ c.check_rule.ensures in
-    (no_zero c.if-count-eq0.false, c.if-count-gt64.false, rule_again _ _ _ (sym told) 0)
+    let few = c.check_count.ensures.few in
+    (search rules, search rules, rule_again _ _ _ (sym c.in_ok-rule.ensures) 0)
 
-pub returns-in-Err : goal.returns-in-Err
-returns-in-Err c = flag_refused _ _ c.if-count-eq0.false c.if-count-gt64.false _ _ (ap answer_of (sym c.in-Err.is) ∙ c.check_rule.ensures)
-
-pub returns-in-Ok : goal.returns-in-Ok
-returns-in-Ok c =
-    let told = ap answer_of (sym c.in-Ok.is) ∙ c.check_rule.ensures in
-    ap answered c.flag_by_rule.ensures ∙ flag_checked _ _ c.if-count-eq0.false c.if-count-gt64.false _ told
+pub returns : goal.returns
+unfolding flag_of
+returns c = search (rules, count_in)

@@ -1,17 +1,15 @@
 -- `region::seam_count` meets its contract. Assumes nothing.
 use mathlib.Core.Path.{sym}
-use Rattle.domain.proofs.Counts.{count_none, count_many, count_few}
+use Rattle.std.proofs.lemmas.Result.{err_from_is_err_and}
+use Rattle.domain.proofs.Counts.{count_in, count_refused}
+use Rattle.refusal.specs.Answer.{answered}
 use Rattle.region.specs.Region.{seam_count_of}
 use Rattle.region.proofs.seam_count.Goals as goal
 
-pub returns-then-count-eq0 : goal.returns-then-count-eq0
+pub returns-in_err-check_count : goal.returns-in_err-check_count
 unfolding seam_count_of
-returns-then-count-eq0 c = sym (count_none _ _ c.if-count-eq0.true)
-
-pub returns-then-count-gt64 : goal.returns-then-count-gt64
-unfolding seam_count_of
-returns-then-count-gt64 c = sym (count_many _ _ c.if-count-eq0.false c.if-count-gt64.true)
+returns-in_err-check_count c = let p = err_from_is_err_and c.from_residual.result c.from_residual.ensures.1 in rw (p.1, p.2) (count_refused c.args.r.count tt (answered c.args.r.seam_count) c.in_err-check_count.ensures.answer)
 
 pub returns : goal.returns
 unfolding seam_count_of
-returns c = sym (count_few _ _ c.if-count-eq0.false c.if-count-gt64.false)
+returns c = sym (count_in _ _ c.in_ok-check_count.ensures.few)

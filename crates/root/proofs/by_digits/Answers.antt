@@ -1,7 +1,7 @@
 -- `root::by_digits` meets its contract. Assumes nothing.
-use Rattle.std.proofs.Common.{◌≡◌, ℕ, ◌+◌, ◌*◌, ◌/◌, ◌^◌, ◌<◌, subst, arith}
+use Rattle.std.proofs.Common.{◌≡◌, ℕ, ◌*◌, ◌/◌, ◌^◌, ◌<◌, subst, arith}
 use Rattle.root.specs.Whole.{IsRoot}
-use Rattle.root.proofs.Laws.{nearest_is, root_short}
+use Rattle.root.proofs.Laws.{nearest_is}
 use Rattle.root.proofs.by_digits.Goals as goal
 
 -- the root of 54 digits
@@ -10,12 +10,6 @@ whole n s r h = subst (λ (q : ℕ). IsRoot q s r) plain h
   where
     plain : n * 1024 * 4 ^ 54 / 2 ^ 64 ≡ 4 * (n * 2 ^ 52)
     plain = omega arith
-
-pub overflow_add-result : goal.overflow_add-result
-overflow_add-result c = record { fits = room _ _ _ c.requires (whole _ _ _ c.digits.ensures) }
-  where
-    room : (n s r : ℕ) → n < 2 ^ 54 → IsRoot (4 * (n * 2 ^ 52)) s r → s + 1 < 2 ^ 64
-    room n s r l h = omega (arith, root_short (omega arith) h)
 
 pub returns : goal.returns
 returns c = nearest_is (below _ c.requires) (whole _ _ _ c.digits.ensures)

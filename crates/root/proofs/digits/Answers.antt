@@ -1,16 +1,16 @@
--- `root::digits` meets its contract. The loop's invariant: the root of the number's first 2 i digits, and the digits that follow them.
--- The measure is what is left of the width. Assumes nothing.
-use Rattle.std.proofs.Common.{◌≡◌, ℕ, ◌+◌, ◌-◌, ◌*◌, ◌/◌, ◌%◌, ◌^◌, ◌<◌, ◌≤◌, ltb, sym, ap, ◌∙◌, subst, le_trans, lt_of_lt_of_le, le_antisymm, mul_left_comm, arith, pow_mono}
+-- `root::digits` meets its contract. Assumes nothing.
+use Rattle.std.proofs.Common.{◌≡◌, ℕ, ◌+◌, ◌-◌, ◌*◌, ◌/◌, ◌%◌, ◌^◌, ◌<◌, ◌≤◌, ltb, sym, ap, ◌∙◌, subst, lt_of_lt_of_le, le_antisymm, mul_left_comm, arith, pow_mono}
 use mir.Val.{bool_byte}
 use Rattle.root.specs.Whole.{IsRoot}
 use Rattle.root.proofs.Grow.{grows, same_root, pow_next}
 use Rattle.root.proofs.Test.{either_way, digit_is}
 use Rattle.root.proofs.digits.Goals as goal
+use Rattle.root.proofs.digits.Goals.{In-loop}
 use Rattle.root.proofs.digits.Invariants.{State}
 
-module _ (n w s r m i : ℕ) (h : State n w s r m i) where
+module _ {n s r m i : ℕ} (few : i ≤ 54) (h : State n s r m i) where
   low : s < 2 ^ 54
-  low = lt_of_lt_of_le h.short (pow_mono (le_trans h.most h.wide))
+  low = lt_of_lt_of_le h.short (pow_mono few)
 
   -- what the next digit is taken of, and the digit
   abbrev t : ℕ
@@ -19,23 +19,14 @@ module _ (n w s r m i : ℕ) (h : State n w s r m i) where
   abbrev bit : ℕ
   bit = bool_byte (ltb (s * 4) t)
 
-  a1 : r * 4 < 2 ^ 64
-  a1 = omega (arith, low, h.rooted.small)
+  wide : t < 2 ^ 64
+  wide = omega (arith, low, h.rooted.small, h.rest)
 
-  a2 : t < 2 ^ 64
-  a2 = omega (arith, low, h.rooted.small, h.rest)
+  within : (s * 4 + 1) * bit ≤ t
+  within = either_way (λ (o : ℕ). (s * 4 + 1) * o ≤ t) (s * 4) t (λ (g : s * 4 < t). omega arith) (λ (g : t ≤ s * 4). omega arith)
 
-  a3 : s * 4 + 1 < 2 ^ 64
-  a3 = omega (arith, low)
-
-  a4 : (s * 4 + 1) * bit ≤ t
-  a4 = either_way (λ (o : ℕ). (s * 4 + 1) * o ≤ t) (s * 4) t (λ (g : s * 4 < t). omega arith) (λ (g : t ≤ s * 4). omega arith)
-
-  a5 : s * 2 + bit < 2 * 2 ^ i
-  a5 = either_way (λ (o : ℕ). s * 2 + o < 2 * 2 ^ i) (s * 4) t (λ (g : s * 4 < t). omega (arith, h.short)) (λ (g : t ≤ s * 4). omega (arith, h.short))
-
-  a6 : s * 2 + bit < 2 ^ 64
-  a6 = omega (arith, a5, pow_mono (le_trans h.most h.wide))
+  longer : s * 2 + bit < 2 * 2 ^ i
+  longer = either_way (λ (o : ℕ). s * 2 + o < 2 * 2 ^ i) (s * 4) t (λ (g : s * 4 < t). omega (arith, h.short)) (λ (g : t ≤ s * 4). omega (arith, h.short))
 
   grown : n * 4 ^ (i + 1) ≡ 4 * (n * 4 ^ i)
   grown = ap (λ (q : ℕ). n * q) (pow_next 4 i) ∙ mul_left_comm n 4 (4 ^ i)
@@ -45,11 +36,9 @@ module _ (n w s r m i : ℕ) (h : State n w s r m i) where
       subst (λ (o : ℕ). IsRoot (4 * (n * 4 ^ i / 2 ^ 64) + m / 2 ^ 62) (s * 2 + o) (t - (s * 4 + 1) * o)) (digit_is s t (4 * r + m / 2 ^ 62) (omega arith))
       (same_root (omega arith) (omega arith) (grows (n * 4 ^ i / 2 ^ 64) s r (m / 2 ^ 62) (omega (arith, h.rest)) h.rooted))
 
-  again : i < w → State n w (s * 2 + bit) (t - (s * 4 + 1) * bit) (m % 2 ^ 62 * 4) (i + 1)
-  again l = record {
-    wide = h.wide;
-    most = omega arith;
-    short = subst (λ (q : ℕ). s * 2 + bit < q) (sym (pow_next 2 i)) a5;
+  again : State n (s * 2 + bit) (t - (s * 4 + 1) * bit) (m % 2 ^ 62 * 4) (i + 1)
+  again = record {
+    short = subst (λ (q : ℕ). s * 2 + bit < q) (sym (pow_next 2 i)) longer;
     rooted = subst (λ (q : ℕ). IsRoot q (s * 2 + bit) (t - (s * 4 + 1) * bit)) (digits (n * 4 ^ i) (n * 4 ^ (i + 1)) m grown h.rest) next;
     rest = follow (n * 4 ^ i) (n * 4 ^ (i + 1)) m grown h.rest;
   }
@@ -60,45 +49,36 @@ module _ (n w s r m i : ℕ) (h : State n w s r m i) where
       follow : (p q m : ℕ) → q ≡ 4 * p → m ≡ p % 2 ^ 64 → m % 2 ^ 62 * 4 ≡ q % 2 ^ 64
       follow p q m a b = omega arith
 
-start : (n w : ℕ) → w ≤ 54 → n < 2 ^ 64 → State n w 0 0 n 0
-start n w g h = record { wide = g; most = omega arith; short = omega arith; rooted = record { square = omega arith; small = omega arith }; rest = omega arith }
+few_digits : (c : In-loop) → c.loop.counter ≤ 54
+few_digits c = omega arith
 
-pub loop-i-init : goal.loop-i-init
-loop-i-init c = start c.args.n c.args.width c.requires (omega arith)
+start : (n : ℕ) → n < 2 ^ 64 → State n 0 0 n 0
+start n l = record { short = omega arith; rooted = record { square = omega arith; small = omega arith }; rest = omega arith }
 
 pub overflow_mul-t : goal.overflow_mul-t
-overflow_mul-t c = record { fits = a1 _ _ _ _ _ _ c.loop-i.invariant }
+overflow_mul-t c = record { fits = omega (arith, wide (few_digits c) c.loop.invariant) }
 
 pub overflow_add-t : goal.overflow_add-t
-overflow_add-t c = record { fits = a2 _ _ _ _ _ _ c.loop-i.invariant }
+overflow_add-t c = record { fits = wide (few_digits c) c.loop.invariant }
 
 pub overflow_mul-o : goal.overflow_mul-o
-overflow_mul-o c = record { fits = omega (arith, low _ _ _ _ _ _ c.loop-i.invariant) }
+overflow_mul-o c = record { fits = omega (arith, low (few_digits c) c.loop.invariant) }
 
 pub overflow_mul-left : goal.overflow_mul-left
-overflow_mul-left c = record { fits = omega (arith, low _ _ _ _ _ _ c.loop-i.invariant) }
+overflow_mul-left c = record { fits = omega (arith, low (few_digits c) c.loop.invariant) }
 
 pub overflow_add-left : goal.overflow_add-left
-overflow_add-left c = record { fits = a3 _ _ _ _ _ _ c.loop-i.invariant }
+overflow_add-left c = record { fits = omega (arith, low (few_digits c) c.loop.invariant) }
 
-pub overflow_mul-left-in-loop-i : goal.overflow_mul-left-in-loop-i
-overflow_mul-left-in-loop-i c = record { fits = omega (arith, a4 _ _ _ _ _ _ c.loop-i.invariant, a2 _ _ _ _ _ _ c.loop-i.invariant) }
+pub overflow_mul-left-in-loop : goal.overflow_mul-left-in-loop
+overflow_mul-left-in-loop c = record { fits = omega (arith, within (few_digits c) c.loop.invariant, wide (few_digits c) c.loop.invariant) }
 
-pub overflow_sub-left : goal.overflow_sub-left
-overflow_sub-left c = a4 _ _ _ _ _ _ c.loop-i.invariant
-
-pub overflow_mul-root : goal.overflow_mul-root
-overflow_mul-root c = record { fits = omega (arith, low _ _ _ _ _ _ c.loop-i.invariant) }
-
-pub overflow_add-root : goal.overflow_add-root
-overflow_add-root c = record { fits = a6 _ _ _ _ _ _ c.loop-i.invariant }
-
-pub loop-i-preserved : goal.loop-i-preserved
-loop-i-preserved c = again _ _ _ _ _ _ c.loop-i.invariant (omega arith)
+pub loop-preserved : goal.loop-preserved
+loop-preserved c = again (few_digits c) c.loop.invariant
 
 -- at the end all digits are taken
-ended : (n w s r m i : ℕ) → w ≤ i → State n w s r m i → IsRoot (n * 4 ^ w / 2 ^ 64) s r
-ended n w s r m i g h = subst (λ (k : ℕ). IsRoot (n * 4 ^ k / 2 ^ 64) s r) (le_antisymm h.most g) h.rooted
+ended : (n w s r m i : ℕ) → w ≤ i → i ≤ w → State n s r m i → IsRoot (n * 4 ^ w / 2 ^ 64) s r
+ended n w s r m i g k h = subst (λ (j : ℕ). IsRoot (n * 4 ^ j / 2 ^ 64) s r) (le_antisymm k g) h.rooted
 
 pub returns : goal.returns
-returns c = ended _ _ _ _ _ _ (omega arith) c.loop-i.invariant
+returns c = ended _ _ _ _ _ _ (omega arith) (omega arith) c.loop.invariant

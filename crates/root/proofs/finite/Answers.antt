@@ -1,5 +1,5 @@
 -- `root::finite` meets its contract. Assumes nothing.
-use Rattle.std.proofs.Common.{◌≡◌, ℕ, ◌+◌, ◌*◌, ◌/◌, ◌%◌, ◌^◌, ◌<◌, ◌≤◌, sym, ap, ◌∙◌, subst, le_trans, lt_of_lt_of_le, le-mul_of_pos_right, arith, pow_pos, pow_mono, shl_lt, shl_exact}
+use Rattle.std.proofs.Common.{◌≡◌, ℕ, ◌+◌, ◌*◌, ◌/◌, ◌%◌, ◌^◌, ◌<◌, ◌≤◌, sym, subst, le_trans, lt_of_lt_of_le, le-mul_of_pos_right, arith, pow_pos, pow_mono, shl_lt, shl_exact}
 use Rattle.root.specs.Whole.{near_root}
 use Rattle.root.proofs.Laws.{near_le}
 use Rattle.root.proofs.finite.Goals as goal
@@ -23,9 +23,3 @@ room f r A h e = omega (arith, near_le A)
 
 pub overflow_add-result-2 : goal.overflow_add-result-2
 overflow_add-result-2 c = let s = (goal.at.overflow_add-result-2 c).Start in record { fits = room s.args.f c.nearest.result _ s.requires.2 c.nearest.ensures }
-
-pub returns : goal.returns
-returns c =
-    let s = (goal.at.returns c).Start in
-    let f = s.args.f in
-    ap (λ (r : ℕ). (f / 2 + 485) * 2 ^ 52 + r) (c.nearest.ensures ∙ ap (λ (x : ℕ). near_root (x * 2 ^ 52)) (shifted s.args.m f s.requires.1))

@@ -1,39 +1,29 @@
 -- `root::guess` meets its contract, which says nothing: no step wraps around by mistake. Assumes nothing.
-use Rattle.std.proofs.Common.{ℕ, ◌/◌, ◌^◌, ◌<◌, ◌≤◌, arith}
+use Rattle.std.proofs.Common.{◌≡◌, ℕ, suc, ◌+◌, ◌-◌, ◌*◌, ◌/◌, ◌%◌, ◌^◌, ◌<◌, ◌≤◌, sym, subst, le_trans, mul-le-mul_right, arith, pow-add, pow_mono, shl_exact}
+use native.Mathlib.Nat.{pow-succ'}
 use lib.Count.{count_leading_zeros, leading_top}
-use Rattle.root.proofs.Widths.{top_below, product_below}
+use Rattle.root.proofs.Widths.{top_below}
 use Rattle.root.proofs.guess.Goals as goal
-use Rattle.root.proofs.guess.Goals.{Else-n-lt256}
 
--- half of a number above 1 has from 1 to 63 leading zeros
-zeros : (n : ℕ) → 256 ≤ n → n < 2 ^ 64 → (1 ≤ count_leading_zeros 64 (n / 2)) × (count_leading_zeros 64 (n / 2) ≤ 63)
-zeros n g l =
-    let t = leading_top 64 (n / 2) (omega arith) (omega arith) in
-    (omega (arith, t.1, top_below (n / 2) t.0 63 t.2 half), omega (arith, t.1))
+-- half of a number has a leading zero
+leads : (n : ℕ) → 256 ≤ n → n < 2 ^ 64 → 1 ≤ count_leading_zeros 64 (n / 2)
+leads n g l = let t = leading_top 64 (n / 2) (omega arith) (omega arith) in omega (arith, t.1, top_below (n / 2) t.0 63 t.2 (omega arith))
+
+-- shifted up by its zeros but for the last, or the last two, a number has its first digit among the two highest
+highest : (n z j : ℕ) → z + suc j ≡ 64 → 1 ≤ z → 2 ^ j ≤ n / 2 → n / 2 < 2 ^ suc j → 16 ≤ n * 2 ^ ((z - 1) / 2 * 2) % 2 ^ 64 / 2 ^ 58
+highest n z j e p g l = omega (arith, long, exact)
   where
-    half : n / 2 < 2 ^ 63
-    half = omega arith
+    i : ℕ
+    i = (z - 1) / 2 * 2
 
-at : (c : Else-n-lt256) → (1 ≤ count_leading_zeros 64 (c.args.n / 2)) × (count_leading_zeros 64 (c.args.n / 2) ≤ 63)
-at c = zeros c.args.n (omega arith) (omega arith)
+    long : 2 ^ 62 ≤ n * 2 ^ i
+    long = le_trans (pow_mono {i = 62} {j = suc j + i} (omega arith)) (subst (λ (x : ℕ). x ≤ n * 2 ^ i) (sym (pow-add 2 (suc j) i)) (mul-le-mul_right (2 ^ i) (omega (arith, pow-succ' 2 j))))
 
-pub overflow_cast-zeros : goal.overflow_cast-zeros
-overflow_cast-zeros c = record { fits = omega (arith, at c) }
+    exact : n * 2 ^ i % 2 ^ 64 ≡ n * 2 ^ i
+    exact = shl_exact (suc (suc j)) i 64 (omega (arith, pow-succ' 2 (suc j))) (omega arith)
 
 pub overflow_sub-up : goal.overflow_sub-up
-overflow_sub-up c = (at c).0
+overflow_sub-up c = leads c.args.n (omega arith) (omega arith)
 
-pub overflow_mul-m : goal.overflow_mul-m
-overflow_mul-m c = record { fits = omega (arith, at c) }
-
-pub overflow_shl-m : goal.overflow_shl-m
-overflow_shl-m c = omega (arith, at c)
-
-pub overflow_mul-o : goal.overflow_mul-o
-overflow_mul-o c = record { fits = product_below 15 17 (omega arith) (omega arith) }
-
-pub overflow_mul-o-2 : goal.overflow_mul-o-2
-overflow_mul-o-2 c = record { fits = product_below 15 17 (omega arith) (omega arith) }
-
-pub overflow_shr-result-2 : goal.overflow_shr-result-2
-overflow_shr-result-2 c = omega (arith, at (goal.at.overflow_shr-result-2 c).Else-n-lt256)
+pub overflow_sub-c : goal.overflow_sub-c
+overflow_sub-c c = let t = leading_top 64 (c.args.n / 2) (omega arith) (omega arith) in highest c.args.n _ t.0 t.1 (leads c.args.n (omega arith) (omega arith)) t.2 t.3

@@ -3,13 +3,13 @@ use Rattle.std.proofs.Common.{◌≡◌, ℕ, ◌+◌, ◌-◌, ◌*◌, ◌/◌
 use lib.Count.{count_leading_zeros}
 use lib.Ieee.{Float, binary64, of_bits, to_bits}
 use lib.Ieee.Bits.{of_bits-to_bits, to_bits-lt}
-use Rattle.float.proofs.Nan.{not_nan, nan_made}
+use Rattle.float.proofs.Nan.{nan_read}
 use Rattle.root.specs.Whole.{near_root}
 use Rattle.root.specs.Root.{sqrt_of}
 use Rattle.root.proofs.Bits.{of_nan, no_nan_bits, Shifted, shifted}
 use Rattle.root.proofs.Units.{of_zero, of_minus_zero, of_top, of_negative, of_normal, of_subnormal, normal_units, root_is, under_infinity}
 use Rattle.root.proofs.sqrt.Goals as goal
-use Rattle.root.proofs.sqrt.Goals.{After-finite-2, Else-b-ge9218868437227405312, Start, Then-wrapping_sub_u64-lt9214364837600034816}
+use Rattle.root.proofs.sqrt.Goals.{After-finite-2, Else-b-ge9218868437227405312, Start, Then-b-lt9214364837600034816}
 
 -- the argument's pattern, read back, is the argument
 back : (c : Start) → of_bits binary64 (to_bits binary64 c.args.a) ≡ c.args.a
@@ -28,28 +28,31 @@ low c = let s = c.before.before.before.before.before.before.before in shifted (b
 itself : (a : Float) (b : ℕ) → of_bits binary64 b ≡ a → sqrt_of (of_bits binary64 b) ≡ of_bits binary64 b → a ≡ sqrt_of a
 itself a b e h = subst (λ (x : Float). x ≡ sqrt_of x) e (sym h)
 
-pub returns-then-a : goal.returns-then-a
-returns-then-a c = of_nan c.args.a c.if-a.true
-
-pub float_to_bits-b : goal.float_to_bits-b
-float_to_bits-b c = not_nan c.args.a c.if-a.false
+pub returns-then-is_nan : goal.returns-then-is_nan
+returns-then-is_nan c = of_nan c.args.a (sym c.is_nan.ensures.value ∙ c.if-is_nan.true)
 
 -- the argument's pattern is that of a positive number that is not subnormal
-common : (c : Then-wrapping_sub_u64-lt9214364837600034816) → (2 ^ 52 ≤ bits c.before.before.before) × (bits c.before.before.before < 2047 * 2 ^ 52)
-common c = (omega arith, omega arith)
+common : (c : Then-b-lt9214364837600034816) → (2 ^ 52 ≤ bits c.before.before.before) × (bits c.before.before.before < 2047 * 2 ^ 52)
+common c = let l = in_range c.before.before.before in (omega (arith, l), omega (arith, l))
+
+pub overflow_add-b-then-b-lt9214364837600034816 : goal.overflow_add-b-then-b-lt9214364837600034816
+overflow_add-b-then-b-lt9214364837600034816 c = record { fits = omega (arith, (common c).1) }
+
+pub finite-requires : goal.finite-requires
+finite-requires c = (omega arith, omega arith, omega (arith, (common c).1))
 
 pub float_from_bits-result : goal.float_from_bits-result
 float_from_bits-result c =
-    let a = (goal.at.float_from_bits-result c).Then-wrapping_sub_u64-lt9214364837600034816 in
+    let a = (goal.at.float_from_bits-result c).Then-b-lt9214364837600034816 in
     let b = bits (goal.at.float_from_bits-result c).Start in
     no_nan_bits c.finite.result
     (subst (λ (x : ℕ). x < 2047 * 2 ^ 52) (sym c.finite.ensures)
     (under_infinity ((2 ^ 52 + b % 2 ^ 52) * 2 ^ (b / 2 ^ 52 - 1)) (2 ^ 52 + b % 2 ^ 52) (b / 2 ^ 52 + 51) (normal_units b (common a).0) (omega arith) (omega arith) (omega (arith, (common a).1))))
 
-pub returns-then-wrapping_sub_u64-lt9214364837600034816 : goal.returns-then-wrapping_sub_u64-lt9214364837600034816
-returns-then-wrapping_sub_u64-lt9214364837600034816 c =
-    let a = (goal.at.returns-then-wrapping_sub_u64-lt9214364837600034816 c).Then-wrapping_sub_u64-lt9214364837600034816 in
-    let s = (goal.at.returns-then-wrapping_sub_u64-lt9214364837600034816 c).Start in
+pub returns-then-b-lt9214364837600034816 : goal.returns-then-b-lt9214364837600034816
+returns-then-b-lt9214364837600034816 c =
+    let a = (goal.at.returns-then-b-lt9214364837600034816 c).Then-b-lt9214364837600034816 in
+    let s = (goal.at.returns-then-b-lt9214364837600034816 c).Start in
     let b = bits s in
     ap (λ (x : ℕ). of_bits binary64 x) c.finite.ensures
     ∙ root_is ((2 ^ 52 + b % 2 ^ 52) * 2 ^ (b / 2 ^ 52 - 1)) (2 ^ 52 + b % 2 ^ 52) (b / 2 ^ 52 + 51) (normal_units b (common a).0) (omega arith) (omega arith) (omega (arith, (common a).1))
@@ -64,7 +67,7 @@ returns-then-b c = let s = (goal.at.returns-then-b c).Start in itself s.args.a 0
 pub returns-then-b-gt9223372036854775808 : goal.returns-then-b-gt9223372036854775808
 returns-then-b-gt9223372036854775808 c =
     let s = (goal.at.returns-then-b-gt9223372036854775808 c).Start in
-    nan_made ∙ sym (ap sqrt_of (sym (back s)) ∙ of_negative (bits s) c.if-b-gt9223372036854775808.true (in_range s))
+    nan_read ∙ sym (ap sqrt_of (sym (back s)) ∙ of_negative (bits s) c.if-b-gt9223372036854775808.true (in_range s))
 
 pub returns-then-b-ge9218868437227405312 : goal.returns-then-b-ge9218868437227405312
 returns-then-b-ge9218868437227405312 c =
@@ -74,20 +77,8 @@ returns-then-b-ge9218868437227405312 c =
 whole : {m : ℕ} → m < 2 ^ 53 → m % 2 ^ 64 ≡ m
 whole h = mod-eq_of_lt (omega arith)
 
-pub overflow_cast-z : goal.overflow_cast-z
-overflow_cast-z c = let h = low c in record { fits = omega (arith, h.high) }
-
 pub overflow_sub-m : goal.overflow_sub-m
 overflow_sub-m c = (low c).low
-
-pub overflow_shl-m : goal.overflow_shl-m
-overflow_shl-m c = omega (arith, (low c).high)
-
-pub overflow_sub-z : goal.overflow_sub-z
-overflow_sub-z c = (low c).high
-
-pub overflow_sub-z-2 : goal.overflow_sub-z-2
-overflow_sub-z-2 c = (low c).high
 
 pub overflow_add-m : goal.overflow_add-m
 overflow_add-m c = record { fits = omega (arith, whole (low c).short, (low c).short) }

@@ -11,7 +11,8 @@ pub returns-else-is_unit_from_norm : goal.returns-else-is_unit_from_norm
 unfolding unit_of
 returns-else-is_unit_from_norm c =
     simp (
-      c.sqrt-norm.ensures,
+      c.scaled_by.ensures,
+      c.sqrt.ensures,
       sym c.squared_norm_of-norm2.ensures,
       sym c.is_unit_from_norm.ensures,
       c.if-is_unit_from_norm.false,

@@ -4,4 +4,4 @@ use Rattle.coo3d.proofs.Vect3.normalized.Goals as goal
 
 pub returns : goal.returns
 unfolding normalized_of
-returns c = simp c.norm-norm.ensures
+returns c = simp (c.scaled_by.ensures, c.norm.ensures)

@@ -4,4 +4,4 @@ use Rattle.coo3d.proofs.Vect3.squared_euclidean_dist.Goals as goal
 
 pub returns : goal.returns
 unfolding squared_norm squared_dist_of
-returns c = c.squared_norm_of.ensures
+returns g c = simp (c.squared_norm_of.ensures, c.x.ensures, c.y.ensures, c.z.ensures)

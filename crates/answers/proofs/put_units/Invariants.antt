@@ -1,6 +1,0 @@
--- The measure of the loop of `answers::put_units`.
-use Rattle.std.proofs.Common.{◌-◌}
-use Rattle.answers.proofs.put_units.Given as goal
-
-abbrev pub decreases-loop-i : goal.decreases-loop-i
-decreases-loop-i l = l.n - l.i

@@ -1,6 +1,0 @@
--- `coo3d::UnitVect3::to_vect3` meets its contract. Assumes nothing.
-use mathlib.Core.Path.{refl}
-use Rattle.coo3d.proofs.UnitVect3.to_vect3.Goals as goal
-
-pub returns : goal.returns
-returns c = refl

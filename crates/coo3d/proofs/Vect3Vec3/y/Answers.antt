@@ -1,0 +1,6 @@
+-- `coo3d::Vect3::y` meets its contract. Assumes nothing.
+use mathlib.Core.Path.{refl}
+use Rattle.coo3d.proofs.Vect3Vec3.y.Goals as goal
+
+pub returns : goal.returns
+returns c = refl

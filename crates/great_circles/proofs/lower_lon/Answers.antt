@@ -1,8 +1,0 @@
--- `great_circles::lower_lon` meets its contract. Assumes nothing.
-use Rattle.great_circles.proofs.lower_lon.Goals as goal
-
-pub returns-then-a-b : goal.returns-then-a-b
-returns-then-a-b c = simp c.if-a-b.true
-
-pub returns-else-a-b : goal.returns-else-a-b
-returns-else-a-b c = simp c.if-a-b.false

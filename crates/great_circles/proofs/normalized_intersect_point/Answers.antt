@@ -1,7 +1,0 @@
--- `great_circles::normalized_intersect_point` meets its contract. Assumes nothing.
-use Rattle.great_circles.specs.Arcs.{intersect_point}
-use Rattle.great_circles.proofs.normalized_intersect_point.Goals as goal
-
-pub returns : goal.returns
-unfolding intersect_point
-returns c = c.normalized.ensures

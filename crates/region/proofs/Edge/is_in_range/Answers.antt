@@ -1,0 +1,5 @@
+-- `region::Edge::is_in_range` meets its contract. Assumes nothing.
+use Rattle.region.proofs.Edge.is_in_range.Goals as goal
+
+pub returns : goal.returns
+returns c = c.is_in_lon_range.ensures
