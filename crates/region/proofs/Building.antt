@@ -94,18 +94,11 @@ pub record Working (corners : List Coo3D) (count : ℕ) (flag : Bool) (r : Regio
   pub flagged : r.contains_south_pole ≡ flag
   pub so_far_is : take k r.cross_products ++ along normal_of from (drop k (take count corners)) ≡ normals_of (take count corners)
 
-pub working_starts : {points : List Coo3D} {count i : ℕ} {flag : Bool} {r : Region} → Checking points count flag r i → (0 < count) × (count ≤ 64) → Working r.vertices count flag r (get_or r.vertices (count - 1) nowhere) 0
-working_starts {points} {count} {i} {flag} {r} inv n =
-    let corners = inv.corners in
+pub working_starts : (r : Region) → (0 < r.count) × (r.count ≤ 64) → length r.vertices ≡ 64 → length r.cross_products ≡ 64 → Working r.vertices r.count r.contains_south_pole r (get_or r.vertices (r.count - 1) nowhere) 0
+working_starts r n corners normals =
     let few = n.1 in
-    let long : count ≤ length r.vertices = omega (arith, few, corners) in
-    record {
-      same = refl;
-      normals = inv.normals;
-      counted = inv.counted;
-      flagged = inv.flagged;
-      so_far_is = normals_start r.vertices count nowhere n.0 long;
-    }
+    let long : r.count ≤ length r.vertices = omega (arith, few, corners) in
+    record { same = refl; normals = normals; counted = refl; flagged = refl; so_far_is = normals_start r.vertices r.count nowhere n.0 long }
 
 pub working_turn : {corners : List Coo3D} {count k : ℕ} {flag : Bool} {r : Region} {from : Coo3D} → Working corners count flag r from k → length corners ≡ 64 → count ≤ 64 → k < count
     → (n : Vect3) → n ≡ normal_of from (get_or r.vertices k nowhere)
@@ -126,13 +119,11 @@ working_turn {corners} {count} {k} {flag} {r} {from} inv full few below n e =
 
 -- ---- and with them the edges that cross the seam
 
-pub seams_first : {points : List Coo3D} {count i : ℕ} {flag : Bool} {r : Region} → Checking points count flag r i → (0 < count) × (count ≤ 64)
-    → Counting (take count r.vertices) 0 (get_or r.vertices (count - 1) nowhere) 0
-seams_first {count = count} {r = r} inv n =
-    let corners = inv.corners in
+pub seams_first : (r : Region) → (0 < r.count) × (r.count ≤ 64) → length r.vertices ≡ 64 → Counting (take r.count r.vertices) 0 (get_or r.vertices (r.count - 1) nowhere) 0
+seams_first r n corners =
     let few = n.1 in
-    let long : count ≤ length r.vertices = omega (arith, few, corners) in
-    seams_start r.vertices count long n.0
+    let long : r.count ≤ length r.vertices = omega (arith, few, corners) in
+    seams_start r.vertices r.count long n.0
 
 pub seams_next : {corners : List Coo3D} {count k n : ℕ} {flag : Bool} {r : Region} {from : Coo3D} → Working corners count flag r from k → Counting (take count corners) n from k
     → length corners ≡ 64 → count ≤ 64 → k < count → (b : Bool) → b ≡ crosses_seam from.lon (get_or r.vertices k nowhere).lon
@@ -165,24 +156,26 @@ fixed_is l n flag cs e some few = rw (sym e, flag_fixed (made cs false) flag som
 abbrev pub seamed : Region → ℕ → Region
 seamed r n = record { vertices = r.vertices; cross_products = r.cross_products; count = r.count; contains_south_pole = r.contains_south_pole; seam_count = n }
 
-module _ {points : List Coo3D} {count i k n : ℕ} {flag : Bool} {r₀ r : Region} {from : Coo3D} (first : Checking points count flag r₀ i) (second : Working r₀.vertices count flag r from k)
-    (seams : Counting (take count r₀.vertices) n from k) (full : length points ≡ 64) (range : (0 < count) × (count ≤ 64)) (passed : i ≡ count) (passed' : k ≡ count) where
-  long : count ≤ length r₀.vertices
-  long = let e = first.corners in omega (arith, range.1, e)
+pub drawn : {corners : List Coo3D} {count k n : ℕ} {flag : Bool} {r : Region} {from : Coo3D} → Working corners count flag r from k → Counting (take count corners) n from k
+    → length corners ≡ 64 → count ≤ 64 → k ≡ count → view_of (seamed r n) ≡ made (take count corners) flag
+drawn {corners} {count} {k} {n} {flag} {r} {from} second seams full few passed =
+    let long : count ≤ length corners = omega (arith, few, full) in
+    let normals : take count r.cross_products ≡ normals_of (take count corners) = sym (normals_done corners count from r.cross_products k long passed) ∙ second.so_far_is in
+    let len : length (take count corners) ≡ count = length-take-le count corners long in
+    let crossings : n ≡ seams_of (take count corners) = counting_ends seams (rw len (omega (arith, passed))) in
+    rw (second.counted, second.same, second.flagged, normals, crossings, len)
 
-  as_made : view_of (seamed r n) ≡ made (take count r₀.vertices) flag
-  as_made =
-      let normals : take count r.cross_products ≡ normals_of (take count r₀.vertices) = sym (normals_done r₀.vertices count from r.cross_products k long passed') ∙ second.so_far_is in
-      let len : length (take count r₀.vertices) ≡ count = length-take-le count r₀.vertices long in
-      let crossings : n ≡ seams_of (take count r₀.vertices) = counting_ends seams (rw len (omega (arith, passed'))) in
-      rw (second.counted, second.same, second.flagged, normals, crossings, len)
-
-  pub ends : Builds (record { region = seamed r n; outcome = (Ok tt) }) (build_of points count (fixed_rule flag))
-  ends =
-      let cs = take count r₀.vertices in
-      let len : length cs ≡ count = length-take-le count r₀.vertices long in
-      let built = fixed_is points count flag cs (checked first full range passed) (λ (z : length cs ≡ 0). some range.0 (sym len ∙ z)) (rw len range.1) in
-      subst (Builds (record { region = seamed r n; outcome = (Ok tt) })) built (record { outcome = refl; view = as_made })
+pub ends : {points : List Coo3D} {count i : ℕ} {flag : Bool} {r : Region} (r' : Region) → Checking points count flag r i → length points ≡ 64 → (0 < count) × (count ≤ 64) → i ≡ count
+    → view_of r' ≡ made (take r.count r.vertices) r.contains_south_pole → Builds (record { region = r'; outcome = (Ok tt) }) (build_of points count (fixed_rule flag))
+ends {points} {count} {i} {flag} {r} r' first full range passed view =
+    let cs = take count r.vertices in
+    let few = range.1 in
+    let corners = first.corners in
+    let long : count ≤ length r.vertices = omega (arith, few, corners) in
+    let len : length cs ≡ count = length-take-le count r.vertices long in
+    let built = fixed_is points count flag cs (checked first full range passed) (λ (z : length cs ≡ 0). some range.0 (sym len ∙ z)) (rw len few) in
+    let as_made : view_of r' ≡ made cs flag = view ∙ ap (λ (n : ℕ). made (take n r.vertices) r.contains_south_pole) first.counted ∙ ap (made cs) first.flagged in
+    subst (Builds (record { region = r'; outcome = (Ok tt) })) built (record { outcome = refl; view = as_made })
 
 -- ---- by a rule: what was built by a fixed one, with the flag that the rule sets
 

@@ -1,12 +1,12 @@
 // Regions: polygons on the sphere with a pole flag, how they are built, and which points they contain. Upstream: `Polygon` in src/sph_geom/mod.rs.
 #![tactic(auto)]
 
-ghost use Rattle.std.specs.Prelude.{◌≡◌, false, ◌≤◌, ◌<◌, length};
+ghost use Rattle.std.specs.Prelude.{◌≡◌, false, ◌≤◌, ◌<◌, length, take};
 ghost use Rattle.std.specs.Iterator.{YieldsFirst, item_count};
 ghost use Rattle.refusal.specs.Answer.{answered, refused_for, answer_of};
 ghost use Rattle.domain.specs.Checks.{point_at};
 ghost use Rattle.region.specs.Edges.{edge, normal_of, in_lon_range, crosses_seam, is_in_range, is_counted};
-ghost use Rattle.region.specs.View.{view_of, empty, odd_at, edges_of, edges_ahead};
+ghost use Rattle.region.specs.View.{view_of, empty, made, odd_at, edges_of, edges_ahead};
 ghost use Rattle.region.specs.Region.{contains_of, seam_count_of, rule_at, flag_of, build_of, Builds};
 ghost use Rattle.region.specs.Poles.{step_of, basic_of, rule_flag, fixed_rule};
 
@@ -319,6 +319,23 @@ pub fn refused(cause: Cause) -> Built
     }
 }
 
+// The normals and the seam count, worked out of the corners in the region itself.
+fn draw_edges(region: &mut Region)
+    requires { (0 < region.old.count) × (region.old.count ≤ 64) }
+    ensures { view_of region.new ≡ made (take region.old.count region.old.vertices) region.old.contains_south_pole }
+{
+    let count = region.count;
+    let mut from = region.vertices[count - 1];
+    let mut seam_count: usize = 0;
+    for k in 0..count {
+        let to = region.vertices[k];
+        region.cross_products[k] = edge_normal(from, to);
+        seam_count += crosses_seam(from, to) as usize;
+        from = to;
+    }
+    region.seam_count = seam_count;
+}
+
 // A region of these corners with this flag. They are checked, and all is worked out, in the region itself, so that no array is copied on the way.
 pub fn build_flagged(points: [Coo3D; 64], count: usize, flag: bool) -> Built
     ensures { Builds result (build_of points count (fixed_rule flag)) }
@@ -340,16 +357,7 @@ pub fn build_flagged(points: [Coo3D; 64], count: usize, flag: bool) -> Built
             Err(cause) => return refused(cause),
         }
     }
-    let last = count - 1;
-    let mut from = region.vertices[last];
-    let mut seam_count: usize = 0;
-    for k in 0..count {
-        let to = region.vertices[k];
-        region.cross_products[k] = edge_normal(from, to);
-        seam_count += crosses_seam(from, to) as usize;
-        from = to;
-    }
-    region.seam_count = seam_count;
+    draw_edges(&mut region);
     Built {
         region,
         outcome: Ok(()),
