@@ -7,6 +7,7 @@ ghost use Rattle.std.specs.Prelude.{◌≤◌, ◌<◌, length};
 
 use coo3d::{Coo3D, UnitVect3, Vect3};
 use crossings::AllAnswer;
+use refusal::Cause;
 use region::{ContainsSouthPoleMethod, Region};
 use root::WholeRoot;
 use zone::Zone;
@@ -102,11 +103,9 @@ fn point_at(s: &[f64], i: usize) -> Coo3D {
 
 fn corners_of(s: &[f64]) -> [Coo3D; 64] {
     let mut corners = [Coo3D::origin(); 64];
-    let mut i: usize = 0;
-    while i < 64 {
+    for i in 0..64 {
         let p = point_at(s, i);
         corners[i] = p;
-        i += 1;
     }
     corners
 }
@@ -116,13 +115,11 @@ fn region_of(corners: &[f64], normals: &[f64], flag: u64) -> Region {
     let mut region = region::empty();
     region.count = corners.len() / 5;
     region.contains_south_pole = flag == 1;
-    let mut i: usize = 0;
-    while i < 64 {
+    for i in 0..64 {
         let p = point_at(corners, i);
         let n = triple_at(normals, i);
         region.vertices[i] = p;
         region.cross_products[i] = n;
-        i += 1;
     }
     region
 }
@@ -160,11 +157,8 @@ pub extern "C" fn bench_idle_region(
     let mut k: usize = 0;
     let mut sum: u64 = 0;
     let n = points.len() / 5;
-    let mut i: usize = 0;
-    while i < n {
-        let at = i;
-        i += 1;
-        let p = point_at(points, at);
+    for i in 0..n {
+        let p = point_at(points, i);
         let q = region.vertices[k];
         let v = region.cross_products[k];
         sum = mix_double(mix_vector(sum, v), p.x + q.x);
@@ -181,11 +175,8 @@ pub extern "C" fn bench_idle_corners(corners: &[f64], points: &[f64]) -> u64 {
     let mut k: usize = 0;
     let mut sum: u64 = 0;
     let n = points.len() / 5;
-    let mut i: usize = 0;
-    while i < n {
-        let at = i;
-        i += 1;
-        let p = point_at(points, at);
+    for i in 0..n {
+        let p = point_at(points, i);
         given[k] = p;
         k = next(k, count);
         let q = given[k];
@@ -204,11 +195,8 @@ pub extern "C" fn bench_contains(
     let region = region_of(corners, normals, flag);
     let mut sum: u64 = 0;
     let n = points.len() / 5;
-    let mut i: usize = 0;
-    while i < n {
-        let at = i;
-        i += 1;
-        let p = point_at(points, at);
+    for i in 0..n {
+        let p = point_at(points, i);
         sum = mix_decision(sum, region::contains(region, p));
     }
     sum
@@ -225,11 +213,8 @@ pub extern "C" fn bench_contains_counting(
     let region = region_of(corners, normals, flag);
     let mut sum: u64 = 0;
     let n = points.len() / 5;
-    let mut i: usize = 0;
-    while i < n {
-        let at = i;
-        i += 1;
-        let p = point_at(points, at);
+    for i in 0..n {
+        let p = point_at(points, i);
         let ranged = cost::contains_with_range_count(region, p);
         let decision = ranged.decision;
         sum = mix(mix_decision(sum, decision), ranged.in_range as u64);
@@ -278,12 +263,9 @@ pub extern "C" fn bench_arc_first(
     let region = region_of(corners, normals, flag);
     let mut sum: u64 = 0;
     let n = points.len() / 5;
-    let mut i: usize = 0;
-    while i < n {
-        let at = i;
-        i += 1;
-        let a = point_at(points, at);
-        let b = point_at(ends, at);
+    for i in 0..n {
+        let a = point_at(points, i);
+        let b = point_at(ends, i);
         let first = great_circles::intersect_great_circle_arc(region, a, b);
         sum = mix_first(sum, first);
     }
@@ -301,12 +283,9 @@ pub extern "C" fn bench_arc_all(
     let region = region_of(corners, normals, flag);
     let mut sum: u64 = 0;
     let n = points.len() / 5;
-    let mut i: usize = 0;
-    while i < n {
-        let at = i;
-        i += 1;
-        let a = point_at(points, at);
-        let b = point_at(ends, at);
+    for i in 0..n {
+        let a = point_at(points, i);
+        let b = point_at(ends, i);
         let all = great_circles::intersect_great_circle_arc_all(region, a, b);
         sum = mix_all(sum, all);
     }
@@ -323,11 +302,8 @@ pub extern "C" fn bench_circle_all(
     let region = region_of(corners, normals, flag);
     let mut sum: u64 = 0;
     let n = triples.len() / 3;
-    let mut i: usize = 0;
-    while i < n {
-        let at = i;
-        i += 1;
-        let t = triple_at(triples, at);
+    for i in 0..n {
+        let t = triple_at(triples, i);
         sum = mix_all(sum, great_circles::intersect_great_circle_all(region, t));
     }
     sum
@@ -343,11 +319,8 @@ pub extern "C" fn bench_parallel_first(
     let region = region_of(corners, normals, flag);
     let mut sum: u64 = 0;
     let n = triples.len() / 3;
-    let mut i: usize = 0;
-    while i < n {
-        let at = i;
-        i += 1;
-        let t = triple_at(triples, at);
+    for i in 0..n {
+        let t = triple_at(triples, i);
         sum = mix_first(sum, parallels::intersect_parallel(region, t.x, t.y, t.z));
     }
     sum
@@ -363,11 +336,8 @@ pub extern "C" fn bench_parallel_all(
     let region = region_of(corners, normals, flag);
     let mut sum: u64 = 0;
     let n = triples.len() / 3;
-    let mut i: usize = 0;
-    while i < n {
-        let at = i;
-        i += 1;
-        let t = triple_at(triples, at);
+    for i in 0..n {
+        let t = triple_at(triples, i);
         let all = parallels::intersect_parallel_all(region, t.x, t.y, t.z);
         sum = mix_all(sum, all);
     }
@@ -382,11 +352,8 @@ pub extern "C" fn bench_build(corners: &[f64], points: &[f64]) -> u64 {
     let mut k: usize = 0;
     let mut sum: u64 = 0;
     let n = points.len() / 5;
-    let mut i: usize = 0;
-    while i < n {
-        let at = i;
-        i += 1;
-        let p = point_at(points, at);
+    for i in 0..n {
+        let p = point_at(points, i);
         given[k] = p;
         let built = region::build(given, count, ContainsSouthPoleMethod::Default);
         let outcome = built.outcome;
@@ -408,11 +375,8 @@ pub extern "C" fn bench_cone(corners: &[f64], points: &[f64]) -> u64 {
     let mut k: usize = 0;
     let mut sum: u64 = 0;
     let n = points.len() / 5;
-    let mut i: usize = 0;
-    while i < n {
-        let at = i;
-        i += 1;
-        let p = point_at(points, at);
+    for i in 0..n {
+        let p = point_at(points, i);
         given[k] = p;
         match cone::bounding_cone(given, count) {
             Ok(c) => {
@@ -436,11 +400,8 @@ pub extern "C" fn bench_put(corners: &[f64], normals: &[f64], flag: u64, points:
     let mut k: usize = 0;
     let mut sum: u64 = 0;
     let n = points.len() / 5;
-    let mut i: usize = 0;
-    while i < n {
-        let at = i;
-        i += 1;
-        let p = point_at(points, at);
+    for i in 0..n {
+        let p = point_at(points, i);
         let answer = edits::put(region, k, p);
         let outcome = answer.outcome;
         let edited = answer.region;
@@ -460,11 +421,8 @@ pub extern "C" fn bench_insert(corners: &[f64], normals: &[f64], flag: u64, poin
     let mut k: usize = 0;
     let mut sum: u64 = 0;
     let n = points.len() / 5;
-    let mut i: usize = 0;
-    while i < n {
-        let at = i;
-        i += 1;
-        let p = point_at(points, at);
+    for i in 0..n {
+        let p = point_at(points, i);
         let answer = edits::insert(region, k, p);
         let outcome = answer.outcome;
         let edited = answer.region;
@@ -483,9 +441,7 @@ pub extern "C" fn bench_remove(corners: &[f64], normals: &[f64], flag: u64, n: u
     let region = region_of(corners, normals, flag);
     let mut k: usize = 0;
     let mut sum: u64 = 0;
-    let mut i: usize = 0;
-    while i < n {
-        i += 1;
+    for i in 0..n {
         let answer = edits::remove(region, k);
         let outcome = answer.outcome;
         let edited = answer.region;
@@ -504,9 +460,7 @@ pub extern "C" fn bench_turn(corners: &[f64], normals: &[f64], flag: u64, n: usi
     let region = region_of(corners, normals, flag);
     let mut k: usize = 0;
     let mut sum: u64 = 0;
-    let mut i: usize = 0;
-    while i < n {
-        i += 1;
+    for i in 0..n {
         let answer = edits::turn(region);
         let outcome = answer.outcome;
         let edited = answer.region;
@@ -525,11 +479,8 @@ pub extern "C" fn bench_hold(corners: &[f64], normals: &[f64], flag: u64, points
     let region = region_of(corners, normals, flag);
     let mut sum: u64 = 0;
     let n = points.len() / 5;
-    let mut i: usize = 0;
-    while i < n {
-        let at = i;
-        i += 1;
-        let p = point_at(points, at);
+    for i in 0..n {
+        let p = point_at(points, i);
         let answer = edits::hold(region, p);
         let outcome = answer.outcome;
         let edited = answer.region;
@@ -552,11 +503,8 @@ pub extern "C" fn bench_hold_lent(
     let region = region_of(corners, normals, flag);
     let mut sum: u64 = 0;
     let n = points.len() / 5;
-    let mut i: usize = 0;
-    while i < n {
-        let at = i;
-        i += 1;
-        let p = point_at(points, at);
+    for i in 0..n {
+        let p = point_at(points, i);
         let answer = lending::hold_on_lent(region, p);
         let outcome = answer.outcome;
         let edited = answer.region;
@@ -581,11 +529,8 @@ pub extern "C" fn bench_rule(
     let mut k: usize = 0;
     let mut sum: u64 = 0;
     let n = points.len() / 5;
-    let mut i: usize = 0;
-    while i < n {
-        let at = i;
-        i += 1;
-        let p = point_at(points, at);
+    for i in 0..n {
+        let p = point_at(points, i);
         let answer = edits::rule(region, rule_of(number, p));
         let outcome = answer.outcome;
         let edited = answer.region;
@@ -617,9 +562,7 @@ fn end_after(files: &[u8], end: usize, len: usize) -> usize
 pub extern "C" fn bench_read(files: &[u8], len: usize, n: usize) -> u64 {
     let mut end: usize = 0;
     let mut sum: u64 = 0;
-    let mut i: usize = 0;
-    while i < n {
-        i += 1;
+    for i in 0..n {
         end = end_after(files, end, len);
         let built = region_file::read(&files[..end]);
         let outcome = built.outcome;
@@ -646,11 +589,8 @@ pub extern "C" fn bench_write(
     let mut k: usize = 0;
     let mut sum: u64 = 0;
     let n = points.len() / 5;
-    let mut i: usize = 0;
-    while i < n {
-        let at = i;
-        i += 1;
-        let p = point_at(points, at);
+    for i in 0..n {
+        let p = point_at(points, i);
         region.vertices[k] = p;
         match region_file::write(region, out) {
             Ok(len) => {
@@ -670,11 +610,8 @@ pub extern "C" fn bench_write(
 pub extern "C" fn bench_root(values: &[f64]) -> u64 {
     let mut sum: u64 = 0;
     let n = values.len();
-    let mut i: usize = 0;
-    while i < n {
-        let at = i;
-        i += 1;
-        sum = mix_double(sum, root::sqrt(values[at]));
+    for i in 0..n {
+        sum = mix_double(sum, root::sqrt(values[i]));
     }
     sum
 }
@@ -684,11 +621,8 @@ pub extern "C" fn bench_root(values: &[f64]) -> u64 {
 pub extern "C" fn bench_root_chain(values: &[f64]) -> u64 {
     let mut x: f64 = 1.0;
     let n = values.len();
-    let mut i: usize = 0;
-    while i < n {
-        let at = i;
-        i += 1;
-        x = root::sqrt(x + values[at]);
+    for i in 0..n {
+        x = root::sqrt(x + values[i]);
     }
     float::to_bits(x)
 }
@@ -701,11 +635,8 @@ fn mix_whole_root(sum: u64, w: WholeRoot) -> u64 {
 pub extern "C" fn bench_whole_root(values: &[u64]) -> u64 {
     let mut sum: u64 = 0;
     let n = values.len();
-    let mut i: usize = 0;
-    while i < n {
-        let at = i;
-        i += 1;
-        sum = mix_whole_root(sum, root::whole_root(values[at]));
+    for i in 0..n {
+        sum = mix_whole_root(sum, root::whole_root(values[i]));
     }
     sum
 }
@@ -715,11 +646,8 @@ pub extern "C" fn bench_whole_root(values: &[u64]) -> u64 {
 pub extern "C" fn bench_whole_root_chain(values: &[u64]) -> u64 {
     let mut sum: u64 = 0;
     let n = values.len();
-    let mut i: usize = 0;
-    while i < n {
-        let at = i;
-        i += 1;
-        sum = mix_whole_root(0, root::whole_root(values[at] ^ (sum % 2)));
+    for i in 0..n {
+        sum = mix_whole_root(0, root::whole_root(values[i] ^ (sum % 2)));
     }
     sum
 }
@@ -729,11 +657,8 @@ pub extern "C" fn bench_whole_root_chain(values: &[u64]) -> u64 {
 pub extern "C" fn bench_zone_new(bounds: &[f64]) -> u64 {
     let mut sum: u64 = 0;
     let n = bounds.len() / 5;
-    let mut i: usize = 0;
-    while i < n {
-        let at = i;
-        i += 1;
-        let b = point_at(bounds, at);
+    for i in 0..n {
+        let b = point_at(bounds, i);
         match Zone::new(b.x, b.y, b.z, b.lon) {
             Ok(z) => {
                 sum = mix(mix_double(sum, z.lat_max), z.cross_primary_meridian as u64);
@@ -755,11 +680,8 @@ pub extern "C" fn bench_zone_questions(bounds: &[f64], triples: &[f64]) -> u64 {
     };
     let mut sum: u64 = 0;
     let n = triples.len() / 3;
-    let mut i: usize = 0;
-    while i < n {
-        let at = i;
-        i += 1;
-        let t = triple_at(triples, at);
+    for i in 0..n {
+        let t = triple_at(triples, i);
         sum = mix_double(sum, zone.dlon());
         sum = mix(sum, zone.crossed_vertically(t.x, t.y, t.z) as u64);
         sum = mix(sum, zone.crossed_horizontally(t.x, t.y, t.z) as u64);
