@@ -30,7 +30,7 @@ fn gravity_center(points: &[Coo3D]) -> Vect3
     sum
 }
 
-// The direction of a sum of points.
+// The direction of a sum of points. `Vect3::normalized` has not the same operations: as upstream's, `UnitVect3::new` may scale once more.
 fn center_of(sum: Vect3) -> UnitVect3
     ensures { result ≡ center_of sum }
 {
@@ -49,7 +49,7 @@ fn d2_max(center: UnitVect3, points: &[Coo3D]) -> f64
     d2
 }
 
-// Not the smallest cone, but one that holds the first `count` points, of which there are 1 to 64.
+// Not the smallest cone, but one that holds the first `count` points, of which there are 1 to 64: an array beside a count, since there is no heap.
 pub fn bounding_cone(points: [Coo3D; 64], count: usize) -> Result<Cone, Cause>
     ensures { answer_of result ≡ bounding_cone_of points count }
 {

@@ -25,7 +25,7 @@ const EAST: f64 = 2.0943951023931953;
 
 const SIN_60: f64 = 0.8660254037844386;
 
-// The decision of `region::contains`, and how many edges were in range. Beside a refusal the number is 0.
+// The decision of `region::contains`, and how many edges were in range: beside the decision, since a refusal too has its number, 0.
 #[derive(Clone, Copy)]
 pub struct RangedDecision {
     pub decision: Result<bool, Cause>,

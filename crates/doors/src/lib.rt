@@ -1,4 +1,4 @@
-// Two calls over a region file's bytes: docs/CALLS.md. C calls them by way of doors_c.
+// Two calls over a region file's bytes: docs/CALLS.md. C calls them by way of doors_c, and passes a point as five numbers.
 #![tactic(auto)]
 
 ghost use Rattle.std.specs.Prelude.{◌≡◌, true};

@@ -57,7 +57,7 @@ fn corner_at(s: &[u8], at: usize) -> Coo3D
     }
 }
 
-// All corners, copied out.
+// All corners, copied out: an array whose first `count` they are, since there is no heap.
 fn corners_at(s: &[u8], at: usize, count: usize) -> [Coo3D; 64]
     requires { (count ≤ 64) × (at + 40 * count ≤ length s.now) }
     ensures { take count result ≡ corners_at s.now at count }
