@@ -1,6 +1,5 @@
 -- The six edits: document 01, 'Edits and the plain record'. The table is read with a count; then the edit changes a region's view.
-use Rattle.std.specs.declared.result.Result.TheVariants.{Err}
-use Rattle.std.specs.Prelude.{ℕ, ◌≡◌, not, cond, [], eqb, ltb, set}
+use Rattle.std.specs.Prelude.{ℕ, ◌≡◌, not, cond, [], eqb, ltb, set, Err}
 use Rattle.coo3d.specs.declared.Coo3D.{Coo3D}
 use Rattle.domain.specs.Checks.{point_at, with_count}
 use Rattle.lists.specs.Cyclic.{ins, del, put_along, ins_along, del_along}

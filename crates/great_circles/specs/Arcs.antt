@@ -1,7 +1,5 @@
 -- Where an edge crosses a great circle arc: upstream's `intersect_great_circle_arc`, for one edge.
-use Rattle.std.specs.declared.option.Option.{Option}
-use Rattle.std.specs.declared.option.Option.TheVariants.{None, Some}
-use Rattle.std.specs.Prelude.{Bool, true, ◌&&◌, ◌||◌, cond, Float}
+use Rattle.std.specs.Prelude.{Bool, true, ◌&&◌, ◌||◌, cond, Float, Option, Some, None}
 use Rattle.std.specs.Float.Ieee.{lt, le}
 use Rattle.coo3d.specs.declared.Coo3D.{Coo3D}
 use Rattle.coo3d.specs.declared.Vect3.{Vect3}

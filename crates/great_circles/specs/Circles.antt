@@ -1,7 +1,5 @@
 -- Where an edge crosses a whole great circle: upstream's `intersect_great_circle_all`, for one edge.
-use Rattle.std.specs.declared.option.Option.{Option}
-use Rattle.std.specs.declared.option.Option.TheVariants.{None, Some}
-use Rattle.std.specs.Prelude.{Bool, ◌&&◌, cond}
+use Rattle.std.specs.Prelude.{Bool, ◌&&◌, cond, Option, Some, None}
 use Rattle.std.specs.Float.Ieee.{lt}
 use Rattle.coo3d.specs.declared.Vect3.{Vect3}
 use Rattle.coo3d.specs.declared.UnitVect3.{UnitVect3}

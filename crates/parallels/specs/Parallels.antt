@@ -1,7 +1,5 @@
 -- Where an edge crosses a parallel: upstream's `intersect_parallel`, for one edge, with its cases.
-use Rattle.std.specs.declared.option.Option.{Option}
-use Rattle.std.specs.declared.option.Option.TheVariants.{None, Some}
-use Rattle.std.specs.Prelude.{Bool, ◌&&◌, not, cond, Float}
+use Rattle.std.specs.Prelude.{Bool, ◌&&◌, not, cond, Float, Option, Some, None}
 use Rattle.std.specs.Float.Ieee.{neg, lt, eq}
 use Rattle.coo3d.specs.declared.Coo3D.{Coo3D}
 use Rattle.coo3d.specs.declared.Vect3.{Vect3}
