@@ -1,6 +1,0 @@
--- `bench::bench_turn` is safe and ends. Assumes nothing.
-use Prim.Native.Nat.{◌<◌}
-use Rattle.bench.proofs.bench_turn.Given as goal
-
-abbrev pub invariant-loop-i : goal.invariant-loop-i
-invariant-loop-i l = l.k < 64
