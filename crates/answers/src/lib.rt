@@ -41,11 +41,15 @@ impl<'a> Session<'a> {
     }
 
     // The region that a call gave is kept where the call was done.
-    pub fn keep(&mut self, outcome: Result<(), Cause>, region: Region) -> stream::Result<()> {
-        if outcome.is_ok() {
+    pub fn keep<T: ToWords + Drop>(
+        &mut self,
+        answer: Result<T, Cause>,
+        region: Region,
+    ) -> stream::Result<()> {
+        if answer.is_ok() {
             self.region = region;
         }
-        self.put(outcome)
+        self.put(answer)
     }
 }
 
@@ -173,11 +177,7 @@ impl ToWords for AllAnswer {
 // The count, the flag, the corners and the normals; a count of 0 or above 64 is refused.
 impl ToWords for Region {
     fn put_to(&self, words: &mut Writer<'_>) -> stream::Result<()> {
-        let count = match self.count {
-            0 => Err(Cause::NoPoint),
-            1..=64 => Ok(self.count),
-            _ => Err(Cause::TooManyPoints),
-        };
+        let count = domain::check_count(self.count).map(|()| self.count);
         count.put_to(words)?;
         if let Ok(count) = count {
             self.contains_south_pole.put_to(words)?;

@@ -11,6 +11,14 @@ fn space() -> [u8; 4096] {
     [0xAA; 4096]
 }
 
+// A file, read into the front of a space.
+fn get_file<'a>(session: &mut Session<'_>, space: &'a mut [u8; 4096]) -> Result<&'a mut [u8]> {
+    let len = session.reader.get_length()?;
+    let file = &mut space[..len];
+    session.reader.get_bytes(file)?;
+    Ok(file)
+}
+
 pub fn write(session: &mut Session<'_>) -> Result<()> {
     let len = session.reader.get_length()?;
     let mut space = space();
@@ -24,28 +32,22 @@ pub fn write(session: &mut Session<'_>) -> Result<()> {
 }
 
 pub fn read(session: &mut Session<'_>) -> Result<()> {
-    let len = session.reader.get_length()?;
     let mut space = space();
-    let file = &mut space[..len];
-    session.reader.get_bytes(file)?;
+    let file = get_file(session, &mut space)?;
     let built = region_file::read(file);
     session.keep(built.outcome, built.region)
 }
 
 pub fn door_contains(session: &mut Session<'_>) -> Result<()> {
-    let len = session.reader.get_length()?;
     let mut space = space();
-    let file = &mut space[..len];
-    session.reader.get_bytes(file)?;
+    let file = get_file(session, &mut space)?;
     let p: Coo3D = session.get()?;
     session.put(doors::jigwandor_contains(file, p.x, p.y, p.z, p.lon, p.lat) as u64)
 }
 
 pub fn door_hold(session: &mut Session<'_>) -> Result<()> {
-    let len = session.reader.get_length()?;
     let mut space = space();
-    let file = &mut space[..len];
-    session.reader.get_bytes(file)?;
+    let file = get_file(session, &mut space)?;
     let p: Coo3D = session.get()?;
     session.put(doors::jigwandor_hold(file, p.x, p.y, p.z, p.lon, p.lat) as u64)?;
     session.writer.put_bytes(file)

@@ -7,7 +7,7 @@ use edits::EditAnswer;
 use region::{ContainsSouthPoleMethod, Region};
 use stream::{Result, Stop};
 
-// A rule's number and its control point, which is always there.
+// A rule's number and its control point, which is always there. The numbers are the stream's, and stand here alone.
 fn get_rule(session: &mut Session<'_>) -> Result<ContainsSouthPoleMethod> {
     let number: u64 = session.get()?;
     let control_point = session.get()?;
@@ -131,9 +131,8 @@ pub fn contains_with_range_count(session: &mut Session<'_>) -> Result<()> {
 pub fn costliest_outline(session: &mut Session<'_>) -> Result<()> {
     let count = session.get()?;
     let answer = cost::costliest_outline(count);
-    let outcome = answer.built.outcome;
-    if outcome.is_ok() {
-        session.region = answer.built.region;
-    }
-    session.put(outcome.map(|()| answer.point))
+    session.keep(
+        answer.built.outcome.map(|()| answer.point),
+        answer.built.region,
+    )
 }

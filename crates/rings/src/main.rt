@@ -10,8 +10,8 @@ use tell::{at, corners_of};
 
 // Twelve corners along a parallel, from longitude 0 on every 30 degrees. But for the sign, x and y are c and 0, or a and b: cos(lat), cos(lat) cos(30) and
 // cos(lat) sin(30).
-fn ring(c: f64, a: f64, b: f64, z: f64, lat: f64) -> [Coo3D; 64] {
-    corners_of(&[
+fn ring(c: f64, a: f64, b: f64, z: f64, lat: f64) -> [Coo3D; 12] {
+    [
         at(c, 0.0, z, 0.0, lat),
         at(a, b, z, 0.5235987755982989, lat),
         at(b, a, z, 1.0471975511965979, lat),
@@ -24,11 +24,11 @@ fn ring(c: f64, a: f64, b: f64, z: f64, lat: f64) -> [Coo3D; 64] {
         at(0.0, -c, z, 4.71238898038469, lat),
         at(b, -a, z, 5.235987755982989, lat),
         at(a, -b, z, 5.759586531581288, lat),
-    ])
+    ]
 }
 
 // 60 S
-fn south_ring() -> [Coo3D; 64] {
+fn south_ring() -> [Coo3D; 12] {
     ring(
         0.5,
         0.4330127018922193,
@@ -39,7 +39,7 @@ fn south_ring() -> [Coo3D; 64] {
 }
 
 // 70 N
-fn north_ring() -> [Coo3D; 64] {
+fn north_ring() -> [Coo3D; 12] {
     ring(
         0.3420201433256687,
         0.29619813272602386,
@@ -50,8 +50,8 @@ fn north_ring() -> [Coo3D; 64] {
 }
 
 // 352, -50; 10, -49; 16, -56; 4, -61; 350, -58: the water round Bouvet Island, on both sides of the meridian 0.
-fn island_ring() -> [Coo3D; 64] {
-    corners_of(&[
+fn island_ring() -> [Coo3D; 5] {
+    [
         at(
             0.6365320448552996,
             -0.08945874489878387,
@@ -87,23 +87,22 @@ fn island_ring() -> [Coo3D; 64] {
             6.1086523819801535,
             -1.0122909661567112,
         ),
-    ])
+    ]
 }
 
 // The half of the ring along 60 S that lies west of Greenwich: 0, 330 and so on to 180. The edge from 180 back to 0 runs over the south pole.
-fn western_half() -> [Coo3D; 64] {
+fn western_half() -> [Coo3D; 7] {
     let ring = south_ring();
-    corners_of(&[
+    [
         ring[0], ring[11], ring[10], ring[9], ring[8], ring[7], ring[6],
-    ])
+    ]
 }
 
 // The same corners the other way round.
-fn western_half_back() -> [Coo3D; 64] {
-    let ring = south_ring();
-    corners_of(&[
-        ring[6], ring[7], ring[8], ring[9], ring[10], ring[11], ring[0],
-    ])
+fn western_half_back() -> [Coo3D; 7] {
+    let mut corners = western_half();
+    corners.reverse();
+    corners
 }
 
 // 45, -80
@@ -161,27 +160,21 @@ fn sides(rt: &impl Print, r: Region) -> io::Result<()> {
 fn by_rule(
     rt: &impl Print,
     name: &str,
-    corners: [Coo3D; 64],
-    count: usize,
+    corners: &[Coo3D],
     rule: ContainsSouthPoleMethod,
 ) -> io::Result<Region> {
     tell::call(rt, name)?;
-    let built = region::build(corners, count, rule);
+    let built = region::build(corners_of(corners), corners.len(), rule);
     tell::answer(rt, built)?;
     Ok(built.region)
 }
 
-fn by_default(
-    rt: &impl Print,
-    name: &str,
-    corners: [Coo3D; 64],
-    count: usize,
-) -> io::Result<Region> {
-    by_rule(rt, name, corners, count, ContainsSouthPoleMethod::Default)
+fn by_default(rt: &impl Print, name: &str, corners: &[Coo3D]) -> io::Result<Region> {
+    by_rule(rt, name, corners, ContainsSouthPoleMethod::Default)
 }
 
 fn round_the_south_pole(rt: &impl Print) -> io::Result<()> {
-    let r = by_default(rt, "along 60 S", south_ring(), 12)?;
+    let r = by_default(rt, "along 60 S", &south_ring())?;
     poles(rt, r)?;
     sides(rt, r)?;
     let mut file: [u8; 496] = [0; 496];
@@ -207,7 +200,7 @@ fn round_the_north_pole(rt: &impl Print) -> io::Result<()> {
         0.7853981633974483,
         0.5235987755982989,
     );
-    let r = by_default(rt, "along 70 N", north_ring(), 12)?;
+    let r = by_default(rt, "along 70 N", &north_ring())?;
     poles(rt, r)?;
     ask(rt, "  80 N      ", r, near)?;
     ask(rt, "  30 N      ", r, far)?;
@@ -230,7 +223,7 @@ fn round_neither_pole(rt: &impl Print) -> io::Result<()> {
         5.6461401302016565,
         -0.9477137838329209,
     );
-    let r = by_default(rt, "round Bouvet Island", island_ring(), 5)?;
+    let r = by_default(rt, "round Bouvet Island", &island_ring())?;
     poles(rt, r)?;
     ask(rt, "  Bouvet    ", r, bouvet)?;
     ask(rt, "  S. Georgia", r, south_georgia)?;
@@ -238,7 +231,7 @@ fn round_neither_pole(rt: &impl Print) -> io::Result<()> {
 }
 
 fn south_by_rule(rt: &impl Print, name: &str, rule: ContainsSouthPoleMethod) -> io::Result<()> {
-    let r = by_rule(rt, name, south_ring(), 12, rule)?;
+    let r = by_rule(rt, name, &south_ring(), rule)?;
     ask(rt, "  south pole", r, south_pole(0.0))?;
     sides(rt, r)?;
     Ok(())
@@ -291,7 +284,7 @@ fn corner_over_the_pole(rt: &impl Print) -> io::Result<()> {
         3.141592653589793,
         -1.1344640137963142,
     );
-    let r = by_default(rt, "along 60 S", south_ring(), 12)?;
+    let r = by_default(rt, "along 60 S", &south_ring())?;
     ask(rt, "  65 S      ", r, p)?;
     tell::call(rt, "corner 0 put beyond the pole")?;
     let edited = edits::put(r, 0, corner);
@@ -374,9 +367,9 @@ fn edge_over_the_pole(rt: &impl Print) -> io::Result<()> {
         4.71238898038469,
         -1.5533430342749532,
     );
-    let r = by_default(rt, "the western half", western_half(), 7)?;
+    let r = by_default(rt, "the western half", &western_half())?;
     halves(rt, r)?;
-    let back = by_default(rt, "the same corners back", western_half_back(), 7)?;
+    let back = by_default(rt, "the same corners back", &western_half_back())?;
     halves(rt, back)?;
     tell::call(
         rt,
