@@ -365,20 +365,13 @@ pub extern "C" fn bench_costliest_outline(count: usize, corner: usize, number: u
     let built = outline.built;
     let region = built.region;
     let mut p = outline.point;
-    if number == 5 {
-        let ranged = cost::contains_with_range_count(region, p);
-        return ranged.in_range as u64;
-    }
     if corner < region.count && corner < 64 {
         p = region.vertices[corner];
     }
-    float::to_bits(match number {
-        0 => p.x,
-        1 => p.y,
-        2 => p.z,
-        3 => p.lon,
-        _ => p.lat,
-    })
+    match [p.x, p.y, p.z, p.lon, p.lat].get(number as usize) {
+        Some(field) => float::to_bits(*field),
+        None => cost::contains_with_range_count(region, outline.point).in_range as u64,
+    }
 }
 
 #[unsafe(no_mangle)]

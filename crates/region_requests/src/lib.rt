@@ -7,7 +7,7 @@ use edits::EditAnswer;
 use region::{ContainsSouthPoleMethod, Region};
 use stream::{Result, Stop};
 
-// A rule's number and its control point, which is always there. The numbers are the stream's, and stand here alone.
+// A rule's number and its control point, which is always there. A rule is made of both: no conversion of a number alone.
 fn get_rule(session: &mut Session<'_>) -> Result<ContainsSouthPoleMethod> {
     let number: u64 = session.get()?;
     let control_point = session.get()?;
