@@ -7,7 +7,6 @@ use mathlib.Core.List.{List, [], ◌∷◌}
 use lib.Ieee.{Float, lt}
 use lib.ListN.{length, get_or}
 use Rattle.coo3d.specs.declared.Coo3D.{Coo3D}
-use Rattle.coo3d.specs.declared.Vect3.{Vect3}
 use Rattle.coo3d.specs.Vectors.{vect_of_point, dot_of}
 use Rattle.float.specs.Doubles.{nought}
 use Rattle.domain.specs.Checks.{point_at, with_count}
@@ -49,9 +48,9 @@ pub out_of_range : (p : Coo3D) (e : Edge) (odd : Bool) → in_lon_range p.lon e.
 unfolding is_counted
 out_of_range p e odd h = rw h (sym (one_false odd))
 
-pub in_range_there : (p : Coo3D) (e : Edge) (odd : Bool) (v : Vect3) (d : Float) → in_lon_range p.lon e.from.lon e.to.lon ≡ true → v ≡ vect_of_point p → d ≡ dot_of v e.normal → exactly_one odd (lt nought d) ≡ exactly_one odd (is_counted p e)
+pub in_range_there : (p : Coo3D) (e : Edge) (odd : Bool) (d : Float) → in_lon_range p.lon e.from.lon e.to.lon ≡ true → d ≡ dot_of (vect_of_point p) e.normal → exactly_one odd (lt nought d) ≡ exactly_one odd (is_counted p e)
 unfolding is_counted
-in_range_there p e odd v d h i j = rw (h, sym i, j)
+in_range_there p e odd d h j = rw (h, j)
 
 -- an array of 64 has the entries that a count takes in
 pub room : (n m : ℕ) → m ≡ 64 → n ≤ 64 → n ≤ m

@@ -63,7 +63,7 @@ pub struct Built {
 pub fn edge_normal(from: Coo3D, to: Coo3D) -> Vect3
     ensures { result ≡ normal_of from to }
 {
-    let v = coo3d::cross_product(from.to_vect3(), to.to_vect3());
+    let v = coo3d::cross_product(from, to);
     if v.z < 0.0 { v.opposite() } else { v }
 }
 
@@ -90,7 +90,7 @@ pub fn crosses_seam(from: Coo3D, to: Coo3D) -> bool
 pub fn is_counted(coo: Coo3D, from: Coo3D, to: Coo3D, normal: Vect3) -> bool
     ensures { result ≡ is_counted coo (record { from = from; to = to; normal = normal }) }
 {
-    is_in_lon_range(coo, from, to) & (coo3d::dot_product(coo.to_vect3(), normal) > 0.0)
+    is_in_lon_range(coo, from, to) & (coo3d::dot_product(coo, normal) > 0.0)
 }
 
 impl Edge {
@@ -209,12 +209,11 @@ pub fn contains(r: Region, coo: Coo3D) -> Result<bool, Cause>
     let mut from = vertices[count - 1];
     for first in 0..count {
         if is_in_lon_range(p, from, vertices[first]) {
-            let v = p.to_vect3();
             let normals = r.cross_products;
             for i in first..count {
                 let to = vertices[i];
                 if is_in_lon_range(p, from, to) {
-                    is_inside = is_inside != (coo3d::dot_product(v, normals[i]) > 0.0);
+                    is_inside = is_inside != (coo3d::dot_product(p, normals[i]) > 0.0);
                 }
                 from = to;
             }

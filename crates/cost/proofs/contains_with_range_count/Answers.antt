@@ -39,7 +39,7 @@ loop-i-preserved c =
     let there = c.is_in_lon_range-is_in_range.ensures in
     let goes_on : c.if-is_in_range.is_inside ≡ exactly_one l.is_inside (is_counted p at) =
     elim c.if-is_in_range.branch [
-      | goal.then-is_in_range t ↦ t.is_inside-is ∙ in_range_there p at l.is_inside _ _ (sym there ∙ t.if-is_in_range.true) c.to_vect3-v.ensures t.dot_product.ensures
+      | goal.then-is_in_range t ↦ t.is_inside-is ∙ in_range_there p at l.is_inside _ (sym there ∙ t.if-is_in_range.true) t.dot_product.ensures
       | goal.else-is_in_range t ↦ t.is_inside-is ∙ out_of_range p at l.is_inside (sym there ∙ t.if-is_in_range.false)
     ]
     in

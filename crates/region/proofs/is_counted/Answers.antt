@@ -4,4 +4,4 @@ use Rattle.region.proofs.is_counted.Goals as goal
 
 pub returns : goal.returns
 unfolding is_counted
-returns c = simp (c.is_in_lon_range.ensures, c.dot_product.ensures, c.to_vect3.ensures)
+returns c = simp (c.is_in_lon_range.ensures, c.dot_product.ensures)
