@@ -1,5 +1,5 @@
 -- Laws for the loop that decides containment and counts the edges in range.
-use Prim.Native.Nat.{ℕ, ◌+◌, ◌-◌, ◌^◌, ◌≤◌, ◌<◌}
+use Prim.Native.Nat.{ℕ, ◌+◌, ◌-◌, ◌≤◌, ◌<◌}
 use native.Mathlib.Omega.{arith}
 use mir.Val.{bool_byte}
 use mathlib.Core.Path.{◌≡◌, refl, sym, ap, ◌∙◌}
@@ -75,13 +75,6 @@ module _ {p : Coo3D} {r : Region} {flag side : Bool} {n i : ℕ} {from : Coo3D} 
         sides = passed p r side side' from i long long' below e ∙ inv.sides;
         number = ap (λ (k : ℕ). n + k + how_many (is_in_range p) (edges_left r (get_or r.vertices i nowhere) (i + 1))) (as_number there ∙ ap (λ (b : Bool). cond b 1 0) f) ∙ sym (many_turn (is_in_range p) n (edge_at r from i) _) ∙ ap (λ (es : List Edge). n + how_many (is_in_range p) es) (sym (turn r from i long long' below)) ∙ inv.number;
       }
-
-  -- a number of 64 bits holds it
-  pub passing_room : i < r.count → r.count ≤ 64 → (there : Bool) → n + bool_byte there < 2 ^ 64
-  passing_room below most there =
-      let few = inv.few in
-      let more = one_at_most there in
-      omega (arith, few, more, below, most)
 
   pub all_ranged : flag ≡ r.contains_south_pole → r.count ≤ i → (side ≡ contained p (view_of r)) × (n ≡ in_range_count p (view_of r))
   unfolding contained odd_at in_range_count
