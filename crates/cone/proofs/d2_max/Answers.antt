@@ -1,7 +1,7 @@
 -- `cone::d2_max` meets its contract: the largest so far, and the points that are left. Assumes nothing.
 use Prim.Native.Nat.{ℕ, suc, ◌+◌, ◌≤◌, ◌<◌}
 use native.Mathlib.Omega.{arith}
-use mathlib.Core.Path.{◌≡◌, sym, ap, ◌∙◌}
+use mathlib.Core.Path.{◌≡◌, refl, sym, ap, ◌∙◌}
 use mathlib.Core.List.{List}
 use lib.ListN.{length, drop, get_or, drop_of_length-le}
 use lib.Seq.{drop-cons}
@@ -21,6 +21,9 @@ step d2 chord larger c l i d h q r = let e : i + 1 ≡ suc i = omega arith in rw
 end : (d2 : Float) (c : Vect3) (l : List Coo3D) (i : ℕ) → length l ≤ i → d2_max_from d2 c (drop i l) ≡ d2
 unfolding d2_max_from
 end d2 c l i h = rw (drop_of_length-le l h)
+
+pub loop-p-init : goal.loop-p-init
+loop-p-init c = refl
 
 pub loop-p-preserved : goal.loop-p-preserved
 loop-p-preserved c = step _ _ _ _ _ _ _ c.loop-p-test.true c.squared_euclidean_dist.ensures c.max-d2.ensures ∙ c.loop-p.invariant
