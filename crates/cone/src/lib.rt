@@ -41,10 +41,11 @@ fn center_of(sum: Vect3) -> UnitVect3
 fn d2_max(center: UnitVect3, points: &[Coo3D]) -> f64
     ensures { result ≡ d2_max_of center points.now }
 {
+    // The distance is a method of plain vectors alone.
     let c = center.to_vect3();
     let mut d2 = 0.0;
     for p in points {
-        d2 = float::max(d2, c.squared_euclidean_dist(p.to_vect3()));
+        d2 = float::max(d2, c.squared_euclidean_dist(*p));
     }
     d2
 }

@@ -1,5 +1,5 @@
 -- Laws for the loop that decides containment and counts the edges in range.
-use Prim.Native.Nat.{ℕ, ◌+◌, ◌-◌, ◌^◌, ◌≤◌, ◌<◌}
+use Prim.Native.Nat.{ℕ, ◌+◌, ◌-◌, ◌≤◌, ◌<◌}
 use native.Mathlib.Omega.{arith}
 use mir.Val.{bool_byte}
 use mathlib.Core.Path.{◌≡◌, refl, sym, ap, ◌∙◌}
@@ -46,7 +46,6 @@ module _ (a : RangedDecision) (v : View) (p : Coo3D) where
 -- ---- the loop: the edges before i are passed, `n` of them were in range, and `side` is the flag, turned over at each that was counted
 
 pub record Passing (p : Coo3D) (r : Region) (flag side : Bool) (n : ℕ) (from : Coo3D) (i : ℕ) : Type 0 where
-  pub below : i ≤ r.count
   pub few : n ≤ i
   pub sides : exactly_one side (odd_many (is_counted p) (edges_left r from i)) ≡ exactly_one flag (odd_many (is_counted p) (edges_of (view_of r)))
   pub number : n + how_many (is_in_range p) (edges_left r from i) ≡ how_many (is_in_range p) (edges_of (view_of r))
@@ -58,7 +57,6 @@ pub passing_starts : (p : Coo3D) (r : Region) (flag : Bool) → 0 < r.count → 
 passing_starts p r flag some long =
     let e = start r some long in
     record {
-      below = omega (arith, some);
       few = omega arith;
       sides = ap (λ (es : List Edge). exactly_one flag (odd_many (is_counted p) es)) (sym e);
       number = nothing_yet _ ∙ ap (how_many (is_in_range p)) (sym e);
@@ -70,18 +68,10 @@ module _ {p : Coo3D} {r : Region} {flag side : Bool} {n i : ℕ} {from : Coo3D} 
       let few = inv.few in
       let more = one_at_most there in
       record {
-        below = omega (arith, below);
         few = omega (arith, few, more);
         sides = passed p r side side' from i long long' below e ∙ inv.sides;
         number = ap (λ (k : ℕ). n + k + how_many (is_in_range p) (edges_left r (get_or r.vertices i nowhere) (i + 1))) (as_number there ∙ ap (λ (b : Bool). cond b 1 0) f) ∙ sym (many_turn (is_in_range p) n (edge_at r from i) _) ∙ ap (λ (es : List Edge). n + how_many (is_in_range p) es) (sym (turn r from i long long' below)) ∙ inv.number;
       }
-
-  -- a number of 64 bits holds it
-  pub passing_room : i < r.count → r.count ≤ 64 → (there : Bool) → n + bool_byte there < 2 ^ 64
-  passing_room below most there =
-      let few = inv.few in
-      let more = one_at_most there in
-      omega (arith, few, more, below, most)
 
   pub all_ranged : flag ≡ r.contains_south_pole → r.count ≤ i → (side ≡ contained p (view_of r)) × (n ≡ in_range_count p (view_of r))
   unfolding contained odd_at in_range_count

@@ -66,7 +66,6 @@ pub fn contains_with_range_count(r: Region, coo: Coo3D) -> RangedDecision
         Ok(p) => p,
         Err(cause) => return refused(cause),
     };
-    let v = p.to_vect3();
     let vertices = r.vertices;
     let normals = r.cross_products;
     let mut from = vertices[count - 1];
@@ -77,7 +76,7 @@ pub fn contains_with_range_count(r: Region, coo: Coo3D) -> RangedDecision
         let is_in_range = region::is_in_lon_range(p, from, to);
         in_range += is_in_range as usize;
         if is_in_range {
-            is_inside = is_inside != (coo3d::dot_product(v, normals[i]) > 0.0);
+            is_inside = is_inside != (coo3d::dot_product(p, normals[i]) > 0.0);
         }
         from = to;
     }

@@ -38,7 +38,6 @@ use Rattle.region.proofs.Builds.{BuiltOf, build_answered, built_good, built_fixe
 
 pub record Checking (points : List Coo3D) (count : ℕ) (flag : Bool) (r : Region) (i : ℕ) : Type 0 where
   pub corners : length r.vertices ≡ 64
-  pub normals : length r.cross_products ≡ 64
   pub counted : r.count ≡ count
   pub flagged : r.contains_south_pole ≡ flag
   pub rest : (j : ℕ) → i ≤ j → get_or r.vertices j nowhere ≡ get_or points j nowhere
@@ -50,9 +49,9 @@ other h e = omega (arith, h, e)
 later : {i j : ℕ} → i + 1 ≤ j → i ≤ j
 later h = omega (arith, h)
 
-pub checking_starts : (points : List Coo3D) (count : ℕ) (flag : Bool) (r : Region) → r.vertices ≡ points → length points ≡ 64 → length r.cross_products ≡ 64 → r.count ≡ count → r.contains_south_pole ≡ flag → Checking points count flag r 0
-checking_starts points count flag r v e n k f =
-    record { corners = ap length v ∙ e; normals = n; counted = k; flagged = f; rest = λ j h. ap (λ (l : List Coo3D). get_or l j nowhere) v; so_far_is = far_start points count r.vertices }
+pub checking_starts : (points : List Coo3D) (count : ℕ) (flag : Bool) (r : Region) → r.vertices ≡ points → length points ≡ 64 → r.count ≡ count → r.contains_south_pole ≡ flag → Checking points count flag r 0
+checking_starts points count flag r v e k f =
+    record { corners = ap length v ∙ e; counted = k; flagged = f; rest = λ j h. ap (λ (l : List Coo3D). get_or l j nowhere) v; so_far_is = far_start points count r.vertices }
 
 module _ {points : List Coo3D} {count i : ℕ} {flag : Bool} {r : Region} (inv : Checking points count flag r i) (full : length points ≡ 64) where
   pub checking_good : count ≤ 64 → i < count → (q : Coo3D) → point_at i (get_or r.vertices i nowhere) ≡ answered q
@@ -64,7 +63,6 @@ module _ {points : List Coo3D} {count i : ℕ} {flag : Bool} {r : Region} (inv :
       let at : get_or r.vertices i nowhere ≡ get_or points i nowhere = inv.rest i (le_refl i) in
       record {
         corners = length-set r.vertices i q ∙ inv.corners;
-        normals = inv.normals;
         counted = inv.counted;
         flagged = inv.flagged;
         rest = λ j h. get_or-set_other r.vertices i j q nowhere (other h) ∙ inv.rest j (later h);

@@ -3,19 +3,17 @@ use Prim.Native.Nat.{ℕ, ◌+◌, ◌-◌, ◌≤◌, ◌<◌}
 use native.Mathlib.Omega.{arith}
 use mathlib.Core.Path.{◌≡◌, sym, ap, ◌∙◌}
 use mathlib.Core.Bool.{Bool, true, false}
-use mathlib.Core.List.{List, [], ◌∷◌}
+use mathlib.Core.List.{List}
 use lib.Ieee.{Float, lt}
 use lib.ListN.{length, get_or}
 use Rattle.coo3d.specs.declared.Coo3D.{Coo3D}
-use Rattle.coo3d.specs.declared.Vect3.{Vect3}
 use Rattle.coo3d.specs.Vectors.{vect_of_point, dot_of}
 use Rattle.float.specs.Doubles.{nought}
 use Rattle.domain.specs.Checks.{point_at, with_count}
 use Rattle.domain.proofs.Counts.{count_few, count_in}
-use Rattle.domain.proofs.Points.{point_refused}
 use Rattle.lists.specs.Counts.{exactly_one, odd_many}
 use Rattle.lists.proofs.Odd.{odd_turn, odd_done, one_false}
-use Rattle.refusal.specs.Answer.{answered, refused, and_then}
+use Rattle.refusal.specs.Answer.{answered, and_then}
 use Rattle.region.specs.declared.Region.{Region}
 use Rattle.region.specs.Edges.{Edge, in_lon_range, is_counted}
 use Rattle.region.specs.View.{View, view_of, nowhere, odd_at, contained, edges_of}
@@ -25,9 +23,6 @@ use Rattle.region.proofs.Edges.{edges_left, edge_at, start, turn, done}
 -- ---- whatever is asked of a region and a point
 
 module _ {A : Type 0} (count : ℕ) (p : Coo3D) (f : Coo3D → A) (some : count ≡ 0 → ⊥) (few : count ≤ 64) where
-  pub asked_outside : (n : ℕ) (vs : List ℕ) → refused n vs ≡ point_at 0 p → with_count count (and_then (point_at 0 p) (λ q. answered (f q))) ≡ refused 1 (0 ∷ [])
-  asked_outside n vs e = rw (count_few count (and_then (point_at 0 p) (λ q. answered (f q))) some few, point_refused 0 p n vs e)
-
   pub asked_inside : (q : Coo3D) → answered q ≡ point_at 0 p → with_count count (and_then (point_at 0 p) (λ q. answered (f q))) ≡ answered (f q)
   asked_inside q e = rw (count_few count (and_then (point_at 0 p) (λ q. answered (f q))) some few, sym e)
 
@@ -49,9 +44,9 @@ pub out_of_range : (p : Coo3D) (e : Edge) (odd : Bool) → in_lon_range p.lon e.
 unfolding is_counted
 out_of_range p e odd h = rw h (sym (one_false odd))
 
-pub in_range_there : (p : Coo3D) (e : Edge) (odd : Bool) (v : Vect3) (d : Float) → in_lon_range p.lon e.from.lon e.to.lon ≡ true → v ≡ vect_of_point p → d ≡ dot_of v e.normal → exactly_one odd (lt nought d) ≡ exactly_one odd (is_counted p e)
+pub in_range_there : (p : Coo3D) (e : Edge) (odd : Bool) (d : Float) → in_lon_range p.lon e.from.lon e.to.lon ≡ true → d ≡ dot_of (vect_of_point p) e.normal → exactly_one odd (lt nought d) ≡ exactly_one odd (is_counted p e)
 unfolding is_counted
-in_range_there p e odd v d h i j = rw (h, sym i, j)
+in_range_there p e odd d h j = rw (h, j)
 
 -- an array of 64 has the entries that a count takes in
 pub room : (n m : ℕ) → m ≡ 64 → n ≤ 64 → n ≤ m

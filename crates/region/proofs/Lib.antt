@@ -1,6 +1,5 @@
 pub mod Lengths
 pub mod Edges
-pub mod Held
 pub mod Containing
 pub mod Corners
 pub mod Seam

@@ -1,5 +1,5 @@
 -- Laws for loops that pass corners in order, `from` being the one before, and count the edges that cross the seam.
-use Prim.Native.Nat.{ℕ, ◌+◌, ◌-◌, ◌^◌, ◌≤◌, ◌<◌}
+use Prim.Native.Nat.{ℕ, ◌+◌, ◌-◌, ◌≤◌, ◌<◌}
 use native.Mathlib.Numerals.{add-one}
 use native.Mathlib.Omega.{arith}
 use mir.Val.{bool_byte}
@@ -54,13 +54,6 @@ counting_ends {cs} {n} {from} {i} inv h = all n ∙ ap (λ (l : List Coo3D). n +
     all : (k : ℕ) → k ≡ k + 0
     all k = omega arith
 
--- a number of 64 bits holds it
-pub counting_room : {cs : List Coo3D} {n : ℕ} {from : Coo3D} {i : ℕ} → Counting cs n from i → i < 64 → (b : Bool) → n + bool_byte b < 2 ^ 64
-counting_room inv h b =
-    let below = inv.below in
-    let more = one_at_most b in
-    omega (arith, below, more, h)
-
 -- over the first n entries of an array
 module _ (l : List Coo3D) (n : ℕ) (long : n ≤ length l) where
   len : length (take n l) ≡ n
@@ -72,6 +65,3 @@ module _ (l : List Coo3D) (n : ℕ) (long : n ≤ length l) where
   pub seams_turn : {m : ℕ} {from : Coo3D} {i : ℕ} → Counting (take n l) m from i → i < n → (b : Bool) → b ≡ crosses_seam from.lon (get_or l i nowhere).lon
       → Counting (take n l) (m + bool_byte b) (get_or l i nowhere) (i + 1)
   seams_turn {i = i} inv h b e = counting_turn inv (get_or l i nowhere) (rw len h) (get_or-take n l i nowhere h) b e
-
-  pub seams_end : {m : ℕ} {from : Coo3D} {i : ℕ} → Counting (take n l) m from i → n ≤ i → m ≡ seams_of (take n l)
-  seams_end inv h = counting_ends inv (rw len h)

@@ -63,7 +63,7 @@ pub struct Built {
 pub fn edge_normal(from: Coo3D, to: Coo3D) -> Vect3
     ensures { result ≡ normal_of from to }
 {
-    let v = coo3d::cross_product(from.to_vect3(), to.to_vect3());
+    let v = coo3d::cross_product(from, to);
     if v.z < 0.0 { v.opposite() } else { v }
 }
 
@@ -86,11 +86,11 @@ pub fn crosses_seam(from: Coo3D, to: Coo3D) -> bool
     float::max(step, -step) > float::PI
 }
 
-// Whether the edge is in range at the point, and the point north of its plane.
+// Whether the edge is in range at the point, and the point north of its plane. The edge comes as three values: a call of the manual.
 pub fn is_counted(coo: Coo3D, from: Coo3D, to: Coo3D, normal: Vect3) -> bool
     ensures { result ≡ is_counted coo (record { from = from; to = to; normal = normal }) }
 {
-    is_in_lon_range(coo, from, to) & (coo3d::dot_product(coo.to_vect3(), normal) > 0.0)
+    is_in_lon_range(coo, from, to) & (coo3d::dot_product(coo, normal) > 0.0)
 }
 
 impl Edge {
@@ -209,12 +209,11 @@ pub fn contains(r: Region, coo: Coo3D) -> Result<bool, Cause>
     let mut from = vertices[count - 1];
     for first in 0..count {
         if is_in_lon_range(p, from, vertices[first]) {
-            let v = p.to_vect3();
             let normals = r.cross_products;
             for i in first..count {
                 let to = vertices[i];
                 if is_in_lon_range(p, from, to) {
-                    is_inside = is_inside != (coo3d::dot_product(v, normals[i]) > 0.0);
+                    is_inside = is_inside != (coo3d::dot_product(p, normals[i]) > 0.0);
                 }
                 from = to;
             }
@@ -267,17 +266,24 @@ fn odd_at(r: Region, p: Coo3D) -> bool
     }
 }
 
+// `basic` of a region's corners. A slice of the region's own array would copy the region. Copied in `flag_by_rule`, the corners would lie on the
+// stack beside the region that `odd_at` copies.
+fn is_basic(r: Region) -> bool
+    requires { (0 < r.count) × (r.count ≤ 64) }
+    ensures { result ≡ basic_of (take r.count r.vertices) }
+{
+    let vertices = r.vertices;
+    basic(&vertices[..r.count])
+}
+
 // The flag that a checked rule sets.
 fn flag_by_rule(r: Region, rule: ContainsSouthPoleMethod) -> bool
     requires { (0 < r.count) × (r.count ≤ 64) × (rule_at 0 rule ≡ answered rule) }
     ensures { result ≡ rule_flag rule (view_of r) }
 {
-    // A slice of the region's own array would copy the region.
-    let vertices = r.vertices;
-    let corners = &vertices[..r.count];
     match rule {
-        ContainsSouthPoleMethod::Default => basic(corners),
-        ContainsSouthPoleMethod::DefaultComplement => !basic(corners),
+        ContainsSouthPoleMethod::Default => is_basic(r),
+        ContainsSouthPoleMethod::DefaultComplement => !is_basic(r),
         ContainsSouthPoleMethod::ContainsSouthPole => true,
         ContainsSouthPoleMethod::DoNotContainsSouthPole => false,
         ContainsSouthPoleMethod::ControlPointIn(p) => !odd_at(r, p),
@@ -337,6 +343,7 @@ fn draw_edges(region: &mut Region)
 }
 
 // A region of these corners with this flag. They are checked, and all is worked out, in the region itself, so that no array is copied on the way.
+// An array beside a count, as in `build`: a call of the manual, since there is no heap.
 pub fn build_flagged(points: [Coo3D; 64], count: usize, flag: bool) -> Built
     ensures { Builds result (build_of points count (fixed_rule flag)) }
 {
@@ -364,7 +371,7 @@ pub fn build_flagged(points: [Coo3D; 64], count: usize, flag: bool) -> Built
     }
 }
 
-// Upstream: `Polygon::new_custom_vec3`.
+// Upstream: `Polygon::new_custom_vec3`. The corners are an array beside a count: a call of the manual, since there is no heap.
 pub fn build(points: [Coo3D; 64], count: usize, method: ContainsSouthPoleMethod) -> Built
     ensures { Builds result (build_of points count method) }
 {

@@ -7,7 +7,7 @@ use Rattle.region.specs.View.{view_of}
 use Rattle.region.proofs.Containing.{out_of_range, in_range_there, room}
 use Rattle.region.proofs.Edges.{edge_at}
 use Rattle.region.proofs.Lengths.{unmap}
-use Rattle.cost.proofs.Ranging.{not_ranged, ranged, passing_starts, passing_turn, passing_room, all_ranged}
+use Rattle.cost.proofs.Ranging.{not_ranged, ranged, passing_starts, passing_turn, all_ranged}
 use Rattle.cost.proofs.contains_with_range_count.Goals as goal
 
 pub returns-in-Err : goal.returns-in-Err
@@ -19,13 +19,6 @@ loop-i-init c =
     let e : length r.vertices ≡ 64 = search unmap in
     let n = c.in-Ok.ensures.few in
     passing_starts _ r r.contains_south_pole n.0 (room _ _ e n.1)
-
-pub overflow_add-in_range : goal.overflow_add-in_range
-overflow_add-in_range c =
-    let r = c.args.r in
-    let e : length r.vertices ≡ 64 = search unmap in
-    let few = c.in-Ok.ensures.few.1 in
-    record { fits = passing_room c.loop-i.invariant (room _ _ e few) c.loop-i-test.true few c.is_in_lon_range-is_in_range.result }
 
 pub loop-i-preserved : goal.loop-i-preserved
 loop-i-preserved c =
@@ -39,7 +32,7 @@ loop-i-preserved c =
     let there = c.is_in_lon_range-is_in_range.ensures in
     let goes_on : c.if-is_in_range.is_inside ≡ exactly_one l.is_inside (is_counted p at) =
     elim c.if-is_in_range.branch [
-      | goal.then-is_in_range t ↦ t.is_inside-is ∙ in_range_there p at l.is_inside _ _ (sym there ∙ t.if-is_in_range.true) c.to_vect3-v.ensures t.dot_product.ensures
+      | goal.then-is_in_range t ↦ t.is_inside-is ∙ in_range_there p at l.is_inside _ (sym there ∙ t.if-is_in_range.true) t.dot_product.ensures
       | goal.else-is_in_range t ↦ t.is_inside-is ∙ out_of_range p at l.is_inside (sym there ∙ t.if-is_in_range.false)
     ]
     in

@@ -8,7 +8,7 @@ pub returns-in-Err : goal.returns-in-Err
 returns-in-Err c = not_built _ _ _ _ _ _ c.refused.ensures (uncounted _ _ c.in-Err.ensures.answer)
 
 pub loop-i-init : goal.loop-i-init
-loop-i-init c = checking_starts _ _ _ _ refl (search rules) (search rules) refl refl
+loop-i-init c = checking_starts _ _ _ _ refl (search rules) refl refl
 
 pub returns-in-Err-check_point : goal.returns-in-Err-check_point
 returns-in-Err-check_point c = not_built _ _ _ _ _ _ c.refused-in-Err-check_point.ensures (checking_bad c.loop-i.invariant (search rules) c.in_default.ensures.few c.loop-i-test.true _ _ c.in-Err-check_point.ensures)

@@ -43,7 +43,7 @@ loop-i-preserved c =
     let in_range = c.is_in_lon_range-in-loop-i.ensures in
     let goes_on : c.if-is_in_lon_range-2.is_inside ≡ exactly_one l.is_inside (is_counted p e) =
     elim c.if-is_in_lon_range-2.branch [
-      | goal.then-is_in_lon_range-2 t ↦ t.is_inside-is ∙ in_range_there p e l.is_inside _ _ (sym in_range ∙ t.if-is_in_lon_range-2.true) c.to_vect3-v.ensures t.dot_product.ensures
+      | goal.then-is_in_lon_range-2 t ↦ t.is_inside-is ∙ in_range_there p e l.is_inside _ (sym in_range ∙ t.if-is_in_lon_range-2.true) t.dot_product.ensures
       | goal.else-is_in_lon_range-2 t ↦ t.is_inside-is ∙ out_of_range p e l.is_inside (sym in_range ∙ t.if-is_in_lon_range-2.false)
     ]
     in

@@ -1,22 +1,14 @@
 -- `region::draw_edges` meets its contract. Assumes nothing.
-use native.Mathlib.Omega.{arith}
 use mathlib.Core.Path.{◌≡◌}
 use lib.ListN.{length}
 use borrow.Author.Rules.{rules}
 use Rattle.region.proofs.Building.{working_starts, working_turn, seams_first, seams_next, drawn}
-use Rattle.region.proofs.Seam.{counting_room}
 use Rattle.region.proofs.draw_edges.Goals as goal
 
 pub loop-k-init : goal.loop-k-init
 loop-k-init c =
     let r = c.args.region.now in
     (working_starts r c.requires (search rules) (search rules), seams_first r c.requires (search rules))
-
-pub overflow_add-seam_count : goal.overflow_add-seam_count
-overflow_add-seam_count c =
-    let few = c.requires.1 in
-    let below = c.loop-k-test.true in
-    record { fits = counting_room c.loop-k.invariant.1 (omega (arith, few, below)) c.crosses_seam.result }
 
 pub loop-k-preserved : goal.loop-k-preserved
 loop-k-preserved c =

@@ -17,12 +17,12 @@ north : (v : Vect3) → lt v.z nought ≡ false → northward v ≡ v
 unfolding northward
 north v h = simp h
 
-crossed : (from to : Coo3D) (a b v : Vect3) → a ≡ vect_of_point from → b ≡ vect_of_point to → v ≡ cross_of a b → northward v ≡ normal_of from to
+crossed : (from to : Coo3D) (v : Vect3) → v ≡ cross_of (vect_of_point from) (vect_of_point to) → northward v ≡ normal_of from to
 unfolding normal_of
-crossed from to a b v p q e = ap northward (e ∙ rw (p, q))
+crossed from to v e = ap northward e
 
 pub returns-then-v : goal.returns-then-v
-returns-then-v c = c.opposite.ensures ∙ sym (south _ c.if-v.true) ∙ crossed _ _ _ _ _ c.to_vect3.ensures c.to_vect3-2.ensures c.cross_product-v.ensures
+returns-then-v c = c.opposite.ensures ∙ sym (south _ c.if-v.true) ∙ crossed _ _ _ c.cross_product-v.ensures
 
 pub returns-else-v : goal.returns-else-v
-returns-else-v c = sym (north _ c.if-v.false) ∙ crossed _ _ _ _ _ c.to_vect3.ensures c.to_vect3-2.ensures c.cross_product-v.ensures
+returns-else-v c = sym (north _ c.if-v.false) ∙ crossed _ _ _ c.cross_product-v.ensures

@@ -14,11 +14,11 @@ odd_at-requires-in-ControlPointOut c = let p = c.requires in (p.0, p.1, point_of
 
 pub returns-in-Default : goal.returns-in-Default
 unfolding rule_flag
-returns-in-Default c = rw c.in-Default.is c.basic.ensures
+returns-in-Default c = rw c.in-Default.is c.is_basic.ensures
 
 pub returns-in-DefaultComplement : goal.returns-in-DefaultComplement
 unfolding rule_flag
-returns-in-DefaultComplement c = rw c.in-DefaultComplement.is (ap not c.basic-in-DefaultComplement.ensures)
+returns-in-DefaultComplement c = rw c.in-DefaultComplement.is (ap not c.is_basic-in-DefaultComplement.ensures)
 
 pub returns-in-ContainsSouthPole : goal.returns-in-ContainsSouthPole
 unfolding rule_flag
