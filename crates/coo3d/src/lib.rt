@@ -37,7 +37,7 @@ pub struct LonLat {
     pub lat: f64,
 }
 
-// What has the coordinates of a vector: a point and a unit vector do.
+// What has the coordinates of a vector: a point and a unit vector do. Each has its own `x`, `y` and `z`, since what a trait gives by default reads no field.
 pub trait Vec3: Copy {
     // The vector with those coordinates.
     ghost vect: { Self → Vect3 };
@@ -175,6 +175,7 @@ impl Coo3D {
     }
 }
 
+// Upstream has most of these in the trait. They are asked of plain vectors alone, and a trait's methods each caller would have to bring into scope.
 impl Vect3 {
     pub fn zero() -> Vect3
         ensures { result ≡ zero_vect }

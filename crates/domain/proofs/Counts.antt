@@ -5,18 +5,12 @@ use mathlib.Core.Path.{◌≡◌, refl, sym, ap, ◌∙◌}
 use mathlib.Core.Bool.{Bool, true, false}
 use mathlib.Core.List.{List, []}
 use lib.Dec.{eqb, ltb}
-use borrow.Author.Tests.{eqb-false, ltb-false, eq-eqb, ne_eqb, le-ltb, lt-ltb}
+use borrow.Author.Tests.{eqb-false, ltb-false, ne_eqb, le-ltb}
 use Rattle.refusal.specs.Answer.{Answer, answered, refused, refuse_if, and_then}
 use Rattle.refusal.proofs.Answers.{never}
 use Rattle.domain.specs.Checks.{with_count}
 
 module _ {A : Type 0} (n : ℕ) (next : Answer A) where
-  pub count_none : n ≡ 0 → with_count n next ≡ refused 2 []
-  count_none e = simp (eq-eqb _ _ e)
-
-  pub count_many : (n ≡ 0 → ⊥) → 64 < n → with_count n next ≡ refused 3 []
-  count_many z h = simp (ne_eqb _ _ z, lt-ltb _ _ h)
-
   pub count_few : (n ≡ 0 → ⊥) → n ≤ 64 → with_count n next ≡ next
   count_few z h = simp (ne_eqb _ _ z, le-ltb _ _ h)
 

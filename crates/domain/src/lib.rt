@@ -10,6 +10,7 @@ use coo3d::{Coo3D, Vect3};
 use refusal::Cause;
 
 // The points that were checked are the first `count` of `points`, and the others are free. A refusal leaves all as they were given.
+// A struct and no `Result`, since the points are promised beside a refusal too, and a `Result` that holds the array is copied once more.
 #[derive(Clone, Copy)]
 pub struct PointsCheck {
     pub points: [Coo3D; 64],
@@ -70,7 +71,7 @@ pub fn check_count(count: usize) -> Result<(), Cause>
     Ok(())
 }
 
-// The first `count` points, of which there are 1 to 64, each checked and numbered from 0.
+// The first `count` points, of which there are 1 to 64, each checked and numbered from 0: an array beside a count, since there is no heap.
 pub fn check_points(points: [Coo3D; 64], count: usize) -> PointsCheck
     ensures { PointsChecked points count result }
 {

@@ -1,4 +1,4 @@
--- What lies between two finite doubles is finite, a finite one less itself is +0, less an equal one a zero, and less another no NaN.
+-- What lies between two finite doubles is finite, a finite one less an equal one is a zero, and less another no NaN.
 use Prim.Native.Nat.{ℕ, zero, suc, ◌+◌, ◌-◌, ◌*◌, ◌^◌, ◌<◌}
 use native.Mathlib.Nat.{le_refl, mul-pos, sub_self, zero-mul}
 use native.Mathlib.Omega.{arith}
@@ -35,12 +35,6 @@ cancels : (s : Bool) (a c : ℕ) → 0 < c → sum binary64 s a (not s) a c ≡ 
 unfolding sum of_bits
 cancels true a c h = rw (le-ltb a a (le_refl a), sub_self a) (zero_over binary64 false c h)
 cancels false a c h = rw (le-ltb a a (le_refl a), sub_self a) (zero_over binary64 false c h)
-
-pub less_itself : (x : Float) → is_finite x ≡ true → x ⊖ x ≡ nought
-unfolding sub add neg
-less_itself nan h = absurd (false≢true h)
-less_itself (inf s) h = absurd (false≢true h)
-less_itself (fin s m e) h = cancels s (m * up e * down e) (down e * down e) (mul-pos (down_pos e) (down_pos e))
 
 -- either zero
 abbrev pub Zero : Float → Type 0

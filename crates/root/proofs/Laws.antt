@@ -133,6 +133,3 @@ near_range A g l =
 -- what a whole root of 4 A rounds to
 pub nearest_is : {A q r : ℕ} → A < 2 ^ 106 → IsRoot (4 * A) q r → (q + 1) / 2 ≡ near_root A
 nearest_is {A} {q} {r} l h = ap (λ (x : ℕ). (x + 1) / 2) (one_root h (every_width 54 (4 * A) (below_four A l))) ∙ sym (near_is A)
-
-pub root_short : {A q r : ℕ} → A < 2 ^ 106 → IsRoot (4 * A) q r → q < 2 ^ 54
-root_short {A} {q} {r} l h = subst (λ (x : ℕ). x < 2 ^ 54) (sym (one_root h (every_width 54 (4 * A) (below_four A l)))) (root_in_lt 54 (4 * A))

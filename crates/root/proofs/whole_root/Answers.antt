@@ -4,10 +4,6 @@ use Rattle.root.specs.Whole.{IsRoot}
 use Rattle.root.proofs.Grow.{next_square}
 use Rattle.root.proofs.WholeRoots.{is_whole_root}
 use Rattle.root.proofs.whole_root.Goals as goal
-use Rattle.root.proofs.whole_root.Goals.{Start}
-
-short : (c : Start) → c.args.n < 2 ^ 64
-short c = omega arith
 
 -- k is the square of s
 module _ (n s k : ℕ) (e : k ≡ s * s) (g : k ≤ n) where
@@ -24,7 +20,7 @@ pub returns-then-remainder-root-2 : goal.returns-then-remainder-root-2
 returns-then-remainder-root-2 c = is_whole_root _ (omega arith) (one_more _ _ _ c.product-square.ensures c.if-square-n.true (omega arith) (omega arith))
 
 pub returns : goal.returns
-returns c = is_whole_root _ (short (goal.at.returns c).Start) (whole c.digits.ensures)
+returns c = is_whole_root _ (omega arith) (whole c.digits.ensures)
   where
     same : (n : ℕ) → n * 4 ^ 32 / 2 ^ 64 ≡ n
     same n = omega arith

@@ -1,6 +1,0 @@
--- `coo3d::Vect3::z` meets its contract. Assumes nothing.
-use mathlib.Core.Path.{refl}
-use Rattle.coo3d.proofs.Vect3Vec3.z.Goals as goal
-
-pub returns : goal.returns
-returns c = refl
