@@ -53,6 +53,6 @@ module _ (a b : Coo3D) (e : Edge) {lons : Float × Float} (lons_are : lons ≡ (
     unfolding by_heights
     one_side h = sym (by_numbers ∙ rw (sym over, sym a_is, sym b_is, h))
 
-    pub crossed : exactly_one (lt nought ha) (lt nought hb) ≡ true → in_edge (intersect_point a b ha hb) e.from e.to ≡ arc_crossing a b e
+    pub crossed : exactly_one (lt nought ha) (lt nought hb) ≡ true → {i : UnitVect3} {x : Option UnitVect3} → i ≡ intersect_point a b ha hb → x ≡ in_edge i e.from e.to → x ≡ arc_crossing a b e
     unfolding by_heights
-    crossed h = sym (by_numbers ∙ rw (sym over, sym a_is, sym b_is, h))
+    crossed h i_is x_is = x_is ∙ rw i_is (sym (by_numbers ∙ rw (sym over, sym a_is, sym b_is, h)))

@@ -45,9 +45,8 @@ fn spans_lat(from: &Coo3D, to: &Coo3D, lat: f64) -> bool
 fn is_between(p: UnitVect3, pa: Coo3D, pb: Coo3D) -> bool
     ensures { result ≡ straddles p pa pb }
 {
-    let v = p.to_vect3();
-    let to_a = coo3d::cross_product(v, pa.to_vect3());
-    let to_b = coo3d::cross_product(v, pb.to_vect3());
+    let to_a = coo3d::cross_product(p, pa);
+    let to_b = coo3d::cross_product(p, pb);
     coo3d::dot_product(to_a, to_b) < 0.0
 }
 
