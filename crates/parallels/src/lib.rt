@@ -23,6 +23,7 @@ fn is_parallel(lat: f64, sin: f64, cos: f64) -> bool
 }
 
 // Two points by latitude, the southern one first.
+#[tactic(auto, unfolding(crate::specs::Parallels::south_of, crate::specs::Parallels::north_of))]
 fn by_latitude(a: Coo3D, b: Coo3D) -> (Coo3D, Coo3D)
     ensures { result ≡ (south_of a b, north_of a b) }
 {
@@ -30,6 +31,7 @@ fn by_latitude(a: Coo3D, b: Coo3D) -> (Coo3D, Coo3D)
 }
 
 // Whether the edge's latitudes fit: from the lower one up to, but not at, the higher. Most edges have both ends on one side, and need no more.
+#[tactic(auto, using(crate::proofs::Sides::one_side, crate::proofs::Sides::alike), unfolding(crate::specs::Parallels::spans_lat))]
 fn spans_lat(from: &Coo3D, to: &Coo3D, lat: f64) -> bool
     ensures { result ≡ spans_lat from.now to.now lat }
 {
@@ -42,6 +44,7 @@ fn spans_lat(from: &Coo3D, to: &Coo3D, lat: f64) -> bool
 }
 
 // Whether p lies between pa and pb on their great circle.
+#[tactic(auto, unfolding(crate::specs::Parallels::straddles))]
 fn is_between(p: UnitVect3, pa: Coo3D, pb: Coo3D) -> bool
     ensures { result ≡ straddles p pa pb }
 {
@@ -51,6 +54,7 @@ fn is_between(p: UnitVect3, pa: Coo3D, pb: Coo3D) -> bool
 }
 
 // The point of the great circle of normal n at y and z, where n.x is not 0.
+#[tactic(auto, unfolding(crate::specs::Parallels::point_at_y))]
 fn point_at_y(n: Vect3, y: f64, z: f64) -> UnitVect3
     ensures { result ≡ point_at_y n y z }
 {
@@ -62,6 +66,7 @@ fn point_at_y(n: Vect3, y: f64, z: f64) -> UnitVect3
 }
 
 // p where it lies on the edge, and else q.
+#[tactic(auto, unfolding(crate::specs::Parallels::either_of))]
 fn either(p: UnitVect3, q: UnitVect3, pa: Coo3D, pb: Coo3D) -> Option<UnitVect3>
     ensures { result ≡ either_of p q pa pb }
 {
@@ -100,6 +105,7 @@ fn second_degree(
 }
 
 // Case A: n.x is not 0.
+#[tactic(auto, unfolding(crate::specs::Parallels::case_a))]
 fn case_a(pa: Coo3D, pb: Coo3D, n: Vect3, z: f64, lat_cos: f64) -> Option<UnitVect3>
     ensures { result ≡ case_a pa pb n z lat_cos }
 {
@@ -111,6 +117,7 @@ fn case_a(pa: Coo3D, pb: Coo3D, n: Vect3, z: f64, lat_cos: f64) -> Option<UnitVe
 }
 
 // Case B: n.x is 0.
+#[tactic(auto, unfolding(crate::specs::Parallels::case_b))]
 fn case_b(pa: Coo3D, pb: Coo3D, n: Vect3, z: f64, lat_cos: f64) -> Option<UnitVect3>
     ensures { result ≡ case_b pa pb n z lat_cos }
 {
@@ -167,6 +174,7 @@ impl Parallel {
 impl Curve for Parallel {
     ghost crossing_of = { λ p e. parallel_crossing p.lat p.sin p.cos e };
 
+    #[tactic(auto, unfolding(crate::specs::Parallels::parallel_crossing))]
     fn crossing(&self, from: &Coo3D, to: &Coo3D, normal: &Vect3) -> Option<UnitVect3> {
         if spans_lat(from, to, self.lat) {
             self.point_of(*from, *to, *normal)
