@@ -21,6 +21,7 @@ pub struct Crossings {
 }
 
 impl Crossings {
+    #[tactic(auto, unfolding(crate::specs::Crossings::zeros, crate::specs::Crossings::list_of))]
     fn none() -> Crossings
         ensures { result ≡ list_of [] }
     {
@@ -142,6 +143,7 @@ fn collect<C: Curve + Drop>(
     Ok(())
 }
 
+#[tactic(auto, using(crate::proofs::Gather::lists_done, crate::proofs::Gather::lists_refused))]
 pub fn all_crossings<C: Curve + Drop>(r: &Region, curve: Result<C, Cause>) -> AllAnswer
     ensures { Lists result (all_crossings_of C.crossing_of (view_of r.now) curve) }
 {
