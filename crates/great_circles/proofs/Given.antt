@@ -1,4 +1,4 @@
--- What the queries' answers come to by the arc or the great circle that they were given.
+-- What the queries' answers come to by the arc that they were given.
 use Prim.Native.Nat.{ℕ}
 use mathlib.Core.Path.{◌≡◌, ap, ◌∙◌}
 use Rattle.std.specs.declared.result.Result.{Result}
@@ -14,10 +14,9 @@ use Rattle.great_circles.specs.Queries.{arc_at, with_arc}
 abbrev ends : Coo3D → Coo3D → Arc
 ends p q = record { west = west_of p q; east = east_of p q }
 
-module _ {A : Type 0} (count : ℕ) where
-  pub given_arc : (a b : Coo3D) (arc : Result Arc Cause) (next : Arc → Answer A) → answer_of arc ≡ arc_at a b → with_count count (and_then (answer_of arc) next) ≡ with_arc count a b (λ p q. next (ends p q))
-  given_arc a b arc next e =
-      ap (with_count count)
-      (ap (λ (x : Answer Arc). and_then x next) e
-      ∙ then_assoc (point_at 0 a) (λ p. and_then (point_at 1 b) (λ q. answered (ends p q))) next
-      ∙ then_same (point_at 0 a) (λ p. and_then (and_then (point_at 1 b) (λ q. answered (ends p q))) next) (λ p. and_then (point_at 1 b) (λ q. next (ends p q))) (λ p. then_assoc (point_at 1 b) (λ q. answered (ends p q)) next))
+pub given_arc : {A : Type 0} (count : ℕ) (a b : Coo3D) (arc : Result Arc Cause) (next : Arc → Answer A) → answer_of arc ≡ arc_at a b → with_count count (and_then (answer_of arc) next) ≡ with_arc count a b (λ p q. next (ends p q))
+given_arc count a b arc next e =
+    ap (with_count count)
+    (ap (λ (x : Answer Arc). and_then x next) e
+    ∙ then_assoc (point_at 0 a) (λ p. and_then (point_at 1 b) (λ q. answered (ends p q))) next
+    ∙ then_same (point_at 0 a) (λ p. and_then (and_then (point_at 1 b) (λ q. answered (ends p q))) next) (λ p. and_then (point_at 1 b) (λ q. next (ends p q))) (λ p. then_assoc (point_at 1 b) (λ q. answered (ends p q)) next))
