@@ -157,7 +157,8 @@ impl Parallel {
         }
     }
 
-    // The crossing of an edge whose latitudes fit.
+    // The crossing of an edge whose latitudes fit. The edge comes in its parts: an `Edge` would be copied, and a list took up to a thirtieth more
+    // instructions by it. Case B also takes the ends in another order.
     fn point_of(&self, from: Coo3D, to: Coo3D, n: Vect3) -> Option<UnitVect3>
         ensures { result ≡ point_of (record { from = from; to = to; normal = n }) self.now.sin self.now.cos }
     {
