@@ -98,8 +98,9 @@ pub fn is_intersecting(first: Result<Option<UnitVect3>, Cause>) -> Result<bool, 
 }
 
 // The first edge with a crossing decides. The count is tested, then the curve.
-// A loop beside `collect`'s, which stores the points: stopped at the first, that would still have the list made, and at one corner an arc's list
-// takes a fifth more instructions than its first point.
+// A loop beside `collect`'s, which stores the points. Stopped at the first point, that one would still have the list made: at one corner an arc's
+// list takes a fifth more instructions than its first point. One loop that hands each point to a closure takes no more than the two, but its
+// contract would have to say what becomes of all that the closure changes.
 pub fn first_crossing<C: Curve + Drop>(
     r: &Region,
     curve: Result<C, Cause>,
