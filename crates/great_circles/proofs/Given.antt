@@ -1,31 +1,22 @@
--- What the queries' answers come to by the arc or the great circle that they were given.
+-- What the queries' answers come to by the arc that they were given.
 use Prim.Native.Nat.{ℕ}
 use mathlib.Core.Path.{◌≡◌, ap, ◌∙◌}
 use Rattle.std.specs.declared.result.Result.{Result}
 use Rattle.coo3d.specs.declared.Coo3D.{Coo3D}
-use Rattle.coo3d.specs.declared.Vect3.{Vect3}
-use Rattle.domain.specs.Checks.{point_at, vector_at, with_count}
+use Rattle.domain.specs.Checks.{point_at, with_count}
 use Rattle.refusal.specs.declared.Cause.{Cause}
 use Rattle.refusal.specs.Answer.{Answer, answered, and_then, answer_of}
 use Rattle.refusal.proofs.Answers.{then_assoc, then_same}
 use Rattle.great_circles.specs.declared.Arc.{Arc}
-use Rattle.great_circles.specs.declared.GreatCircle.{GreatCircle}
 use Rattle.great_circles.specs.Arcs.{west_of, east_of}
-use Rattle.great_circles.specs.Queries.{arc_at, circle_at, with_arc}
+use Rattle.great_circles.specs.Queries.{arc_at, with_arc}
 
 abbrev ends : Coo3D → Coo3D → Arc
 ends p q = record { west = west_of p q; east = east_of p q }
 
-abbrev circle : Vect3 → GreatCircle
-circle m = record { n = m }
-
-module _ {A : Type 0} (count : ℕ) where
-  pub given_arc : (a b : Coo3D) (arc : Result Arc Cause) (next : Arc → Answer A) → answer_of arc ≡ arc_at a b → with_count count (and_then (answer_of arc) next) ≡ with_arc count a b (λ p q. next (ends p q))
-  given_arc a b arc next e =
-      ap (with_count count)
-      (ap (λ (x : Answer Arc). and_then x next) e
-      ∙ then_assoc (point_at 0 a) (λ p. and_then (point_at 1 b) (λ q. answered (ends p q))) next
-      ∙ then_same (point_at 0 a) (λ p. and_then (and_then (point_at 1 b) (λ q. answered (ends p q))) next) (λ p. and_then (point_at 1 b) (λ q. next (ends p q))) (λ p. then_assoc (point_at 1 b) (λ q. answered (ends p q)) next))
-
-  pub given_circle : (n : Vect3) (given : Result GreatCircle Cause) (next : GreatCircle → Answer A) → answer_of given ≡ circle_at n → with_count count (and_then (answer_of given) next) ≡ with_count count (and_then (vector_at 0 n) (λ m. next (circle m)))
-  given_circle n given next e = ap (with_count count) (ap (λ (x : Answer GreatCircle). and_then x next) e ∙ then_assoc (vector_at 0 n) (λ m. answered (circle m)) next)
+pub given_arc : {A : Type 0} (count : ℕ) (a b : Coo3D) (arc : Result Arc Cause) (next : Arc → Answer A) → answer_of arc ≡ arc_at a b → with_count count (and_then (answer_of arc) next) ≡ with_arc count a b (λ p q. next (ends p q))
+given_arc count a b arc next e =
+    ap (with_count count)
+    (ap (λ (x : Answer Arc). and_then x next) e
+    ∙ then_assoc (point_at 0 a) (λ p. and_then (point_at 1 b) (λ q. answered (ends p q))) next
+    ∙ then_same (point_at 0 a) (λ p. and_then (and_then (point_at 1 b) (λ q. answered (ends p q))) next) (λ p. and_then (point_at 1 b) (λ q. next (ends p q))) (λ p. then_assoc (point_at 1 b) (λ q. answered (ends p q)) next))

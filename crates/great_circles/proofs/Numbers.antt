@@ -1,7 +1,8 @@
 -- The crossing of an edge with an arc, by the numbers that are compared: the ends of the edge count in either order.
 use mathlib.Core.Path.{◌≡◌, refl, sym, ◌∙◌}
-use mathlib.Core.Bool.{Bool, true, false, ◌&&◌, cond}
+use mathlib.Core.Bool.{Bool, true, false, cond}
 use lib.Ieee.{Float, lt}
+use Rattle.std.proofs.Math.Bool.{and_comm}
 use Rattle.std.specs.declared.option.Option.{Option}
 use Rattle.std.specs.declared.option.Option.TheVariants.{None}
 use Rattle.coo3d.specs.declared.Coo3D.{Coo3D}
@@ -13,18 +14,12 @@ use Rattle.lists.specs.Counts.{exactly_one}
 use Rattle.region.specs.declared.Edge.{Edge}
 use Rattle.great_circles.specs.Arcs.{west_of, east_of, overlap_in_lon, intersect_point, in_edge, crossing_of, arc_crossing}
 
-&&-either : (s t : Bool) → s && t ≡ t && s
-&&-either true true = refl
-&&-either true false = refl
-&&-either false true = refl
-&&-either false false = refl
-
 in_edge_either : (i : UnitVect3) (pa pb : Coo3D) → in_edge i pa pb ≡ in_edge i pb pa
 unfolding in_edge
 in_edge_either i pa pb =
     let va = vect_of_point pa in
     let vb = vect_of_point pb in
-    rw (dot_comm va vb, &&-either (lt (dot_of vb va) (abs_of (dot_of va (vect_of_unit i)))) (lt (dot_of vb va) (abs_of (dot_of vb (vect_of_unit i)))))
+    rw (dot_comm va vb, and_comm (lt (dot_of vb va) (abs_of (dot_of va (vect_of_unit i)))) (lt (dot_of vb va) (abs_of (dot_of vb (vect_of_unit i)))))
 
 -- what the calls answered of the edge's longitudes, the lower one first
 module _ (a b : Coo3D) (e : Edge) {lons : Float × Float} (lons_are : lons ≡ (cond (lt e.to.lon e.from.lon) e.to.lon e.from.lon, cond (lt e.to.lon e.from.lon) e.from.lon e.to.lon)) where
@@ -53,6 +48,6 @@ module _ (a b : Coo3D) (e : Edge) {lons : Float × Float} (lons_are : lons ≡ (
     unfolding by_heights
     one_side h = sym (by_numbers ∙ rw (sym over, sym a_is, sym b_is, h))
 
-    pub crossed : exactly_one (lt nought ha) (lt nought hb) ≡ true → in_edge (intersect_point a b ha hb) e.from e.to ≡ arc_crossing a b e
+    pub crossed : exactly_one (lt nought ha) (lt nought hb) ≡ true → {i : UnitVect3} {x : Option UnitVect3} → i ≡ intersect_point a b ha hb → x ≡ in_edge i e.from e.to → x ≡ arc_crossing a b e
     unfolding by_heights
-    crossed h = sym (by_numbers ∙ rw (sym over, sym a_is, sym b_is, h))
+    crossed h i_is x_is = x_is ∙ rw i_is (sym (by_numbers ∙ rw (sym over, sym a_is, sym b_is, h)))

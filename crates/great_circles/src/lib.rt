@@ -3,7 +3,7 @@
 
 ghost use Rattle.std.specs.Prelude.{◌≡◌, cond};
 ghost use Rattle.std.specs.Float.Ieee.{lt};
-ghost use Rattle.coo3d.specs.Vectors.{dot_of};
+ghost use Rattle.coo3d.specs.Vectors.{vect_of_point, dot_of};
 ghost use Rattle.refusal.specs.Answer.{answer_of};
 ghost use Rattle.region.specs.View.{view_of};
 ghost use Rattle.crossings.specs.Crossings.{first_answer, Lists};
@@ -30,6 +30,7 @@ struct GreatCircle {
 }
 
 // Two points by longitude.
+#[tactic(auto, unfolding(crate::specs::Arcs::west_of, crate::specs::Arcs::east_of))]
 fn by_longitude(a: Coo3D, b: Coo3D) -> Arc
     ensures { result ≡ record { west = west_of a b; east = east_of a b } }
 {
@@ -65,15 +66,13 @@ fn are_overlapping_in_lon(a: f64, b: f64, pa: f64, pb: f64) -> bool
 }
 
 // The point, where it lies on the edge between pa and pb or opposite to it.
+#[tactic(auto, unfolding(crate::specs::Arcs::in_edge))]
 fn in_edge(i: UnitVect3, pa: Coo3D, pb: Coo3D) -> Option<UnitVect3>
     ensures { result ≡ in_edge i pa pb }
 {
-    let va = pa.to_vect3();
-    let vb = pb.to_vect3();
-    let v = i.to_vect3();
-    let papb = coo3d::dot_product(va, vb);
-    if (float::abs(coo3d::dot_product(va, v)) > papb)
-        & (float::abs(coo3d::dot_product(vb, v)) > papb)
+    let papb = coo3d::dot_product(pa, pb);
+    if (float::abs(coo3d::dot_product(pa, i)) > papb)
+        & (float::abs(coo3d::dot_product(pb, i)) > papb)
     {
         Some(i)
     } else {
@@ -82,12 +81,12 @@ fn in_edge(i: UnitVect3, pa: Coo3D, pb: Coo3D) -> Option<UnitVect3>
 }
 
 // Whether both ends of the edge are nearer to the point than to each other.
-fn is_beyond(i: UnitVect3, pa: Vect3, pb: Vect3, papb: f64) -> bool
-    requires { papb ≡ dot_of pa pb }
-    ensures { result ≡ is_beyond i pa pb }
+#[tactic(auto, unfolding(crate::specs::Circles::is_beyond))]
+fn is_beyond(i: UnitVect3, pa: Coo3D, pb: Coo3D, papb: f64) -> bool
+    requires { papb ≡ dot_of (vect_of_point pa) (vect_of_point pb) }
+    ensures { result ≡ is_beyond i (vect_of_point pa) (vect_of_point pb) }
 {
-    let v = i.to_vect3();
-    (coo3d::dot_product(pa, v) > papb) & (coo3d::dot_product(pb, v) > papb)
+    (coo3d::dot_product(pa, i) > papb) & (coo3d::dot_product(pb, i) > papb)
 }
 
 impl Arc {
@@ -119,11 +118,12 @@ impl Curve for Arc {
 
     // The edge's ends count in either order. Inlined into the loops, which else call it for each edge.
     #[inline(always)]
+    #[tactic(auto, using(crate::proofs::Numbers::apart, crate::proofs::Numbers::one_side, crate::proofs::Numbers::crossed))]
     fn crossing(&self, from: &Coo3D, to: &Coo3D, normal: &Vect3) -> Option<UnitVect3> {
         let (lower, higher) = in_order(from.lon, to.lon);
         if are_overlapping_in_lon(self.west.lon, self.east.lon, lower, higher) {
-            let ua = coo3d::dot_product(self.west.to_vect3(), *normal);
-            let ub = coo3d::dot_product(self.east.to_vect3(), *normal);
+            let ua = coo3d::dot_product(self.west, *normal);
+            let ub = coo3d::dot_product(self.east, *normal);
             if (ua > 0.0) != (ub > 0.0) {
                 return in_edge(self.intersect_point(ua, ub), *from, *to);
             }
@@ -145,16 +145,14 @@ impl Curve for GreatCircle {
     ghost crossing_of = { λ circle e. circle_crossing circle.n e };
 
     fn crossing(&self, from: &Coo3D, to: &Coo3D, normal: &Vect3) -> Option<UnitVect3> {
-        let pa = from.to_vect3();
-        let pb = to.to_vect3();
-        let papb = coo3d::dot_product(pa, pb);
+        let papb = coo3d::dot_product(*from, *to);
         let v = coo3d::cross_product(*normal, self.n);
         let i = v.normalized();
-        if is_beyond(i, pa, pb, papb) {
+        if is_beyond(i, *from, *to, papb) {
             return Some(i);
         }
         let o = i.opposite();
-        if is_beyond(o, pa, pb, papb) {
+        if is_beyond(o, *from, *to, papb) {
             Some(o)
         } else {
             None
@@ -181,6 +179,7 @@ pub fn is_intersecting_great_circle_arc(r: Region, a: Coo3D, b: Coo3D) -> Result
 }
 
 // The great circle of the normal n.
+#[tactic(auto, unfolding(crate::specs::Queries::circle_all_of))]
 pub fn intersect_great_circle_all(r: Region, n: Vect3) -> AllAnswer
     ensures { Lists result (circle_all_of (view_of r) n) }
 {

@@ -1,49 +1,17 @@
 -- An edge that fits has one end at the parallel or south of it and the other north of it: a loop passes every other edge after a comparison for each end.
-use Prim.Native.Nat.{ℕ, ◌+◌, ◌*◌, ◌≤◌}
-use native.Mathlib.Omega.{arith}
 use mathlib.Core.Path.{◌≡◌, refl, sym, ◌∙◌}
-use mathlib.Core.Bool.{Bool, true, false, ◌&&◌, ◌||◌, cond, beq, false≢true, not}
-use borrow.Author.Tests.{ltb-true, eqb-true, le-ltb}
-use lib.Dec.{ltb, eqb}
-use lib.Ieee.{Float, nan, inf, fin, up, down, lt, eq, le}
+use mathlib.Core.Bool.{Bool, true, false, ◌&&◌, cond, beq, not}
+use lib.Ieee.{Float, lt, le}
+use Rattle.std.proofs.lemmas.Float.{lt_irrefl, lt_of_le_of_lt, T_from_true}
 use Rattle.coo3d.specs.declared.Coo3D.{Coo3D}
 use Rattle.parallels.specs.Parallels.{south_of, north_of, spans_lat}
 
--- ---- what is at most y is not above it
-
-either_way : {P : Type 0} (p q e : Bool) → (p ≡ true → P) → (q ≡ true → P) → (p || (q && e)) ≡ true → P
-either_way true q e f g h = f refl
-either_way false true e f g h = g refl
-either_way false false e f g h = absurd (false≢true h)
-
-not_above : (a b : ℕ) (e : Bool) → (ltb a b || (eqb a b && e)) ≡ true → ltb b a ≡ false
-not_above a b e h = le-ltb b a (either_way {P = a ≤ b} (ltb a b) (eqb a b) e (λ k. omega (arith, ltb-true a b k)) (λ k. omega (arith, eqb-true a b k)) h)
-
-not_under : (a b : ℕ) (e : Bool) → (ltb b a || (eqb a b && e)) ≡ true → ltb a b ≡ false
-not_under a b e h = le-ltb a b (either_way {P = b ≤ a} (ltb b a) (eqb a b) e (λ k. omega (arith, ltb-true b a k)) (λ k. omega (arith, eqb-true a b k)) h)
-
-both_zero : (a b : ℕ) (p q : Bool) → p ≡ eqb a b → q ≡ eqb a 0 → (p && q) ≡ true → ltb 0 (b + a) ≡ false
-both_zero a b true true hp hq h = le-ltb 0 (b + a) (omega (arith, eqb-true a b (sym hp), eqb-true a 0 (sym hq)))
-both_zero a b true false hp hq h = absurd (false≢true h)
-both_zero a b false q hp hq h = absurd (false≢true h)
-
 le_not_lt : (x y : Float) → le x y ≡ true → lt y x ≡ false
-unfolding le lt eq
-le_not_lt nan y h = absurd (false≢true h)
-le_not_lt (inf s) nan h = absurd (false≢true h)
-le_not_lt (inf true) (inf true) h = refl
-le_not_lt (inf true) (inf false) h = refl
-le_not_lt (inf false) (inf true) h = absurd (false≢true h)
-le_not_lt (inf false) (inf false) h = refl
-le_not_lt (inf true) (fin t n d) h = refl
-le_not_lt (inf false) (fin t n d) h = absurd (false≢true h)
-le_not_lt (fin s m e) nan h = absurd (false≢true h)
-le_not_lt (fin s m e) (inf true) h = absurd (false≢true h)
-le_not_lt (fin s m e) (inf false) h = refl
-le_not_lt (fin false m e) (fin false n d) h = not_above (m * up e * down d) (n * up d * down e) _ h
-le_not_lt (fin false m e) (fin true n d) h = both_zero (m * up e * down d) (n * up d * down e) _ _ refl refl h
-le_not_lt (fin true m e) (fin false n d) h = refl
-le_not_lt (fin true m e) (fin true n d) h = not_under (m * up e * down d) (n * up d * down e) _ h
+le_not_lt x y h = go (lt y x) refl
+  where
+    go : (b : Bool) → lt y x ≡ b → b ≡ false
+    go true e = absurd (lt_irrefl x (lt_of_le_of_lt x y x (T_from_true _ h) (T_from_true _ e)))
+    go false e = refl
 
 -- ---- an edge with both ends on one side does not fit
 

@@ -23,6 +23,7 @@ fn is_parallel(lat: f64, sin: f64, cos: f64) -> bool
 }
 
 // Two points by latitude, the southern one first.
+#[tactic(auto, unfolding(crate::specs::Parallels::south_of, crate::specs::Parallels::north_of))]
 fn by_latitude(a: Coo3D, b: Coo3D) -> (Coo3D, Coo3D)
     ensures { result ≡ (south_of a b, north_of a b) }
 {
@@ -30,6 +31,7 @@ fn by_latitude(a: Coo3D, b: Coo3D) -> (Coo3D, Coo3D)
 }
 
 // Whether the edge's latitudes fit: from the lower one up to, but not at, the higher. Most edges have both ends on one side, and need no more.
+#[tactic(auto, using(crate::proofs::Sides::one_side, crate::proofs::Sides::alike), unfolding(crate::specs::Parallels::spans_lat))]
 fn spans_lat(from: &Coo3D, to: &Coo3D, lat: f64) -> bool
     ensures { result ≡ spans_lat from.now to.now lat }
 {
@@ -42,16 +44,17 @@ fn spans_lat(from: &Coo3D, to: &Coo3D, lat: f64) -> bool
 }
 
 // Whether p lies between pa and pb on their great circle.
+#[tactic(auto, unfolding(crate::specs::Parallels::straddles))]
 fn is_between(p: UnitVect3, pa: Coo3D, pb: Coo3D) -> bool
     ensures { result ≡ straddles p pa pb }
 {
-    let v = p.to_vect3();
-    let to_a = coo3d::cross_product(v, pa.to_vect3());
-    let to_b = coo3d::cross_product(v, pb.to_vect3());
+    let to_a = coo3d::cross_product(p, pa);
+    let to_b = coo3d::cross_product(p, pb);
     coo3d::dot_product(to_a, to_b) < 0.0
 }
 
 // The point of the great circle of normal n at y and z, where n.x is not 0.
+#[tactic(auto, unfolding(crate::specs::Parallels::point_at_y))]
 fn point_at_y(n: Vect3, y: f64, z: f64) -> UnitVect3
     ensures { result ≡ point_at_y n y z }
 {
@@ -63,6 +66,7 @@ fn point_at_y(n: Vect3, y: f64, z: f64) -> UnitVect3
 }
 
 // p where it lies on the edge, and else q.
+#[tactic(auto, unfolding(crate::specs::Parallels::either_of))]
 fn either(p: UnitVect3, q: UnitVect3, pa: Coo3D, pb: Coo3D) -> Option<UnitVect3>
     ensures { result ≡ either_of p q pa pb }
 {
@@ -101,6 +105,7 @@ fn second_degree(
 }
 
 // Case A: n.x is not 0.
+#[tactic(auto, unfolding(crate::specs::Parallels::case_a))]
 fn case_a(pa: Coo3D, pb: Coo3D, n: Vect3, z: f64, lat_cos: f64) -> Option<UnitVect3>
     ensures { result ≡ case_a pa pb n z lat_cos }
 {
@@ -112,6 +117,7 @@ fn case_a(pa: Coo3D, pb: Coo3D, n: Vect3, z: f64, lat_cos: f64) -> Option<UnitVe
 }
 
 // Case B: n.x is 0.
+#[tactic(auto, unfolding(crate::specs::Parallels::case_b))]
 fn case_b(pa: Coo3D, pb: Coo3D, n: Vect3, z: f64, lat_cos: f64) -> Option<UnitVect3>
     ensures { result ≡ case_b pa pb n z lat_cos }
 {
@@ -151,7 +157,8 @@ impl Parallel {
         }
     }
 
-    // The crossing of an edge whose latitudes fit.
+    // The crossing of an edge whose latitudes fit. The edge comes in its parts: an `Edge` would be copied, and a list took up to a thirtieth more
+    // instructions by it. Case B also takes the ends in another order.
     fn point_of(&self, from: Coo3D, to: Coo3D, n: Vect3) -> Option<UnitVect3>
         ensures { result ≡ point_of (record { from = from; to = to; normal = n }) self.now.sin self.now.cos }
     {
@@ -168,6 +175,7 @@ impl Parallel {
 impl Curve for Parallel {
     ghost crossing_of = { λ p e. parallel_crossing p.lat p.sin p.cos e };
 
+    #[tactic(auto, unfolding(crate::specs::Parallels::parallel_crossing))]
     fn crossing(&self, from: &Coo3D, to: &Coo3D, normal: &Vect3) -> Option<UnitVect3> {
         if spans_lat(from, to, self.lat) {
             self.point_of(*from, *to, *normal)
