@@ -46,13 +46,15 @@ fn index_left(n: usize, i: usize) -> usize
     if i + 1 == n { 0 } else { i }
 }
 
-// The corner to be set, after the table's tests in their order: the count, the index, the point.
+// The corner to be set, after the table's tests in their order: the count, the index, the point. Insert's most is 63, so these tests of the count
+// are not those of domain::check_count.
 fn corner_for(count: usize, most: usize, there: bool, corner: Coo3D) -> Result<Coo3D, Cause>
-    requires { most ≤ 64 }
     ensures answer { answer_of result ≡ refuse_if (eqb count 0) 2 [] (refuse_if (ltb most count) 3 [] (refuse_if (not there) 4 [] (point_at 0 corner))) }
     ensures inside { OnOk result ((0 < count) × ((count ≤ most) × (there ≡ true))) }
 {
-    domain::check_count(count)?;
+    if count == 0 {
+        return Err(Cause::NoPoint);
+    }
     if count > most {
         return Err(Cause::TooManyPoints);
     }
