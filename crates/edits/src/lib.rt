@@ -69,10 +69,10 @@ fn removable(count: usize, i: usize) -> Result<(), Cause>
     ensures answer { outcome_of result (edit.remove i) ≡ checked count (edit.remove i) }
     ensures inside { OnOk result ((i < count) × ((1 < count) × (count ≤ 64))) }
 {
-    domain::check_count(count)?;
-    if count == 1 {
+    if count <= 1 {
         return Err(Cause::NoPoint);
     }
+    domain::check_count(count)?;
     if i >= count {
         return Err(Cause::NoSuchIndex);
     }
