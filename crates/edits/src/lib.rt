@@ -200,8 +200,8 @@ fn flagged(r: Region, flag: Result<bool, Cause>) -> EditAnswer
 pub fn turn(r: Region) -> EditAnswer
     ensures { Edited edit.turn r result }
 {
-    let flag = r.contains_south_pole;
-    flagged(r, domain::check_count(r.count).map(|_| !flag))
+    let turned = !r.contains_south_pole;
+    flagged(r, domain::check_count(r.count).and(Ok(turned)))
 }
 
 // Upstream: `must_contain`. The flag is turned where the point isn't contained.
