@@ -184,7 +184,8 @@ pub fn remove(r: Region, i: usize) -> EditAnswer
 
 // The region with the flag, where there is one. Its one copy is made where both cases have met.
 fn flagged(r: Region, flag: Result<bool, Cause>) -> EditAnswer
-    ensures { (outcome_of result.outcome (view_of result.region) ≡ and_then (answer_of flag) (λ b. answered (with_flag (view_of r) b))) × ((cause : Cause) → result.outcome ≡ Err cause → result.region ≡ r) }
+    ensures answer { outcome_of result.outcome (view_of result.region) ≡ and_then (answer_of flag) (λ b. answered (with_flag (view_of r) b)) }
+    ensures kept { (cause : Cause) → result.outcome ≡ Err cause → result.region ≡ r }
 {
     let mut region = r;
     let outcome = match flag {
