@@ -115,7 +115,7 @@ module _ {A : Type 0} (v : View) (k : A → Edit) (of : A → Bool) (flag : Bool
 module _ (v : View) where
   pub turn_by : (d : Result ⊤ Cause) → answer_of d ≡ with_count v.count (answered tt) → edit_of turn v ≡ and_then (answer_of (result_and d (Ok (not v.flag)))) (λ b. answered (with_flag v b))
   unfolding edit_of checked changed
-  turn_by (Ok done) e = rw (count_in v.count (answered turn) (count_answered v.count (answered tt) done (sym e)))
+  turn_by (Ok done) e = rw (count_in v.count (answered turn) (count_answered v.count (answered tt) done (sym e))) refl
   turn_by (Err cause) e = rw (← count_refused v.count tt (answered turn) e)
 
   pub hold_by : (p : Coo3D) → edit_of (hold p) v ≡ and_then (and_then (contains_of v p) (λ b. answered (cond b v.flag (not v.flag)))) (λ b. answered (with_flag v b))
