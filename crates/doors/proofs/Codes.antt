@@ -26,11 +26,11 @@ mapped (Ok x) (Err e) h = absurd h
 mapped (Err e) m h = ap (λ (x : Result ℕ Cause). code_of (λ n. n) (answer_of x)) h
 
 -- the code of an outcome, which says 0 of what is done
-pub outcome_code : (r : Result ⊤ Cause) (x : Answer View) → outcome_of r true ≡ verdict x → code_of (λ n. n) (answer_of (result_and r (Ok 0))) ≡ code_of (λ (v : View). 0) x
-outcome_code (Ok done) (answered v) e = refl
-outcome_code (Ok done) (refused n vs) e = never (sym e)
-outcome_code (Err cause) (answered v) e = never e
-outcome_code (Err cause) (refused n vs) e = ap (code_of (λ (b : Bool). 0)) e
+pub code_of_outcome : (r : Result ⊤ Cause) (x : Answer View) → outcome_of r true ≡ verdict x → code_of (λ n. n) (answer_of (result_and r (Ok 0))) ≡ code_of (λ (v : View). 0) x
+code_of_outcome (Ok done) (answered v) e = refl
+code_of_outcome (Ok done) (refused n vs) e = never (sym e)
+code_of_outcome (Err cause) (answered v) e = never e
+code_of_outcome (Err cause) (refused n vs) e = ap (code_of (λ (b : Bool). 0)) e
 
 by_done : {A : Type 0} (o : Result ⊤ Cause) (a : A) (x : Answer A) → o ≡ Ok tt → outcome_of o a ≡ x → x ≡ answered a
 by_done o a x e h = sym h ∙ rw e
