@@ -1,18 +1,19 @@
 -- What the doors answer, by the outcomes of the calls they make.
 use Prim.Native.Nat.{ℕ}
-use mathlib.Core.Path.{◌≡◌, sym, ap, ◌∙◌}
+use mathlib.Core.Path.{◌≡◌, refl, sym, ap, ◌∙◌}
 use mathlib.Core.Bool.{Bool, true}
 use mir.Val.{bool_byte}
 use Rattle.region_file.proofs.Numbers.{flag_number}
 use mathlib.Core.List.{List}
 use Rattle.std.specs.Prelude.{⊤, Result, Ok, Err}
-use Rattle.std.specs.Result.{MatchResult, IsOkAnd, IsErrAnd}
+use Rattle.std.specs.Result.{MatchResult, IsOkAnd, IsErrAnd, result_and}
 use Rattle.std.proofs.lemmas.Result.{err_from_is_err_and}
 use Rattle.coo3d.specs.declared.Coo3D.{Coo3D}
 use Rattle.edits.specs.Edits.{edit_of}
 use Rattle.edits.specs.Edits as edit
-use Rattle.refusal.specs.Answer.{Answer, answered, refused_for, answer_of, outcome_of, verdict}
+use Rattle.refusal.specs.Answer.{Answer, answered, refused, refused_for, answer_of, outcome_of, verdict}
 use Rattle.refusal.specs.declared.Cause.{Cause}
+use Rattle.refusal.proofs.Answers.{never}
 use Rattle.region.specs.View.{View}
 use Rattle.region_file.specs.File.{read_of, trailer_of, with_flag_field}
 use Rattle.region_file.proofs.Reading.{read_taken}
@@ -23,6 +24,13 @@ pub mapped : (r : Result Bool Cause) (m : Result ℕ Cause) → MatchResult r (�
 mapped (Ok x) (Ok n) h = h ∙ flag_number x
 mapped (Ok x) (Err e) h = absurd h
 mapped (Err e) m h = ap (λ (x : Result ℕ Cause). code_of (λ n. n) (answer_of x)) h
+
+-- the code of an outcome, which says 0 of what is done
+pub code_of_outcome : (r : Result ⊤ Cause) (x : Answer View) → outcome_of r true ≡ verdict x → code_of (λ n. n) (answer_of (result_and r (Ok 0))) ≡ code_of (λ (v : View). 0) x
+code_of_outcome (Ok done) (answered v) e = refl
+code_of_outcome (Ok done) (refused n vs) e = never (sym e)
+code_of_outcome (Err cause) (answered v) e = never e
+code_of_outcome (Err cause) (refused n vs) e = ap (code_of (λ (b : Bool). 0)) e
 
 by_done : {A : Type 0} (o : Result ⊤ Cause) (a : A) (x : Answer A) → o ≡ Ok tt → outcome_of o a ≡ x → x ≡ answered a
 by_done o a x e h = sym h ∙ rw e

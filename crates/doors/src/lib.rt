@@ -53,5 +53,5 @@ pub fn jigwandor_hold(file: &mut [u8], x: f64, y: f64, z: f64, lon: f64, lat: f6
     ensures answer { result ≡ hold_code file.old (record { x = x; y = y; z = z; lon = lon; lat = lat }) }
     ensures file_after { file.new ≡ held_file file.old (record { x = x; y = y; z = z; lon = lon; lat = lat }) }
 {
-    code(hold(file, Coo3D { x, y, z, lon, lat }).map(|()| 0))
+    code(hold(file, Coo3D { x, y, z, lon, lat }).and(Ok(0)))
 }

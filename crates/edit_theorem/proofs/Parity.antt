@@ -1,5 +1,5 @@
 -- The parity of what is counted along a cyclic list, after an element is put elsewhere, put in or taken out.
-use Prim.Native.Nat.{ℕ, zero, suc, ◌+◌, ◌-◌, ◌≤◌, ◌<◌}
+use Prim.Native.Nat.{ℕ, zero, suc, ◌+◌, ◌≤◌, ◌<◌}
 use native.Mathlib.Nat.{le_of_suc-le-suc, not-suc-le-zero}
 use native.Mathlib.Numerals.{add-one}
 use native.Mathlib.Omega.{arith}
@@ -14,6 +14,7 @@ use lib.Seq.{get_or-set_other}
 use Rattle.lists.specs.Counts.{exactly_one, odd_many}
 use Rattle.lists.specs.Cyclic.{last_of, ins, del, along, next_of, there_of, before_of, put_along, ins_along, del_along}
 use Rattle.lists.proofs.Cyclic.{same_or_not, length_from, length_ins, length_del, put_one, ins_one, del_one}
+use Rattle.edits.proofs.Neighbours.{next_below, there_below, ins_front, del_front}
 use Rattle.lists.proofs.Odd.{odd, xor, by_way, one_left, one_false}
 
 cancel : (b x o : Bool) → exactly_one (exactly_one b o) (exactly_one x o) ≡ exactly_one x b
@@ -40,14 +41,6 @@ odd_two l i j a b hi hj ne =
     let hj' : j < length (set l i a) = rw length-set hj in
     by_way (odd (set (set l i a) j b)) (odd (set l i a)) (odd l)
     ∙ rw (odd_set (set l i a) j b hj', odd_set l i a hi, get_or-set_other l i j a false ne) (four (get_or l i false) (get_or l j false) a b)
-
-pub next_below : (n i : ℕ) → i < n → next_of n i < n
-unfolding next_of
-next_below n i h =
-    ⊎_elim
-    (λ (e : i + 1 ≡ n). let a : eqb (i + 1) n ≡ true = eq-eqb _ _ e in rw a (omega arith))
-    (λ (e : i + 1 ≡ n → ⊥). let a : eqb (i + 1) n ≡ false = ne_eqb _ _ e in rw a (omega arith))
-    (same_or_not (i + 1) n)
 
 pub next_other : (n i : ℕ) → i < n → 1 < n → next_of n i ≡ i → ⊥
 unfolding next_of
@@ -140,12 +133,6 @@ module _ {A : Type 0} (d : A) where
   ins_after (x ∷ l) zero a h = refl
   ins_after (x ∷ l) (suc i) a h = ins_after l i a (le_of_suc-le-suc h)
 
-  ins_front : (l : List A) (i : ℕ) (a : A) → 0 < i → 0 < length l → get_or (ins i a l) 0 d ≡ get_or l 0 d
-  unfolding ins
-  ins_front l zero a h k = absurd (not-suc-le-zero h)
-  ins_front [] (suc i) a h k = absurd (not-suc-le-zero k)
-  ins_front (x ∷ l) (suc i) a h k = refl
-
   -- what stands after a corner that was put in is what stood at the edge that it splits
   ins_next : (l : List A) (i : ℕ) (a : A) (n : ℕ) → length l ≡ n → i ≤ n → 0 < n → get_or (ins i a l) (next_of (n + 1) i) d ≡ get_or l (split_of n i) d
   unfolding next_of
@@ -154,7 +141,7 @@ module _ {A : Type 0} (d : A) where
       (λ (e : i ≡ n).
       let t : eqb (i + 1) (n + 1) ≡ true = eq-eqb _ _ (ap (◌+ 1) e) in
       let u : eqb i n ≡ true = eq-eqb _ _ e in
-      rw (t, u) (ins_front l i a (omega arith) (omega arith)))
+      rw (t, u) (ins_front d l i 0 a (omega arith) (omega arith)))
       (λ (e : i ≡ n → ⊥).
       let o : i + 1 ≡ n + 1 → ⊥ = λ (q : i + 1 ≡ n + 1). e (omega arith) in
       let t : eqb (i + 1) (n + 1) ≡ false = ne_eqb _ _ o in
@@ -168,18 +155,12 @@ module _ {A : Type 0} (d : A) where
   del_after (x ∷ l) zero = refl
   del_after (x ∷ l) (suc i) = del_after l i
 
-  del_front : (l : List A) (i : ℕ) → 0 < i → get_or (del i l) 0 d ≡ get_or l 0 d
-  unfolding del
-  del_front l zero h = absurd (not-suc-le-zero h)
-  del_front [] (suc i) h = refl
-  del_front (x ∷ l) (suc i) h = refl
-
   -- what stands after a corner that was taken out is what stood at the next
   del_next : (l : List A) (i n : ℕ) → 1 < n → i < n → get_or (del i l) (there_of n i) d ≡ get_or l (next_of n i) d
   unfolding next_of there_of
   del_next l i n two h =
       ⊎_elim
-      (λ (e : i + 1 ≡ n). let t : eqb (i + 1) n ≡ true = eq-eqb _ _ e in rw t (del_front l i (omega arith)))
+      (λ (e : i + 1 ≡ n). let t : eqb (i + 1) n ≡ true = eq-eqb _ _ e in rw t (del_front d l i 0 (omega arith)))
       (λ (e : i + 1 ≡ n → ⊥). let t : eqb (i + 1) n ≡ false = ne_eqb _ _ e in rw (t, add-one i) (del_after l i))
       (same_or_not (i + 1) n)
 
@@ -192,14 +173,6 @@ split_below n i h pos =
 
 next_fits : (n i : ℕ) → i ≤ n → next_of (n + 1) i < suc n
 next_fits n i h = let b : next_of (n + 1) i < n + 1 = next_below (n + 1) i (omega arith) in omega arith
-
-there_fits : (n i : ℕ) → i < n → 1 < n → there_of n i < n - 1
-unfolding there_of
-there_fits n i h two =
-    ⊎_elim
-    (λ (e : i + 1 ≡ n). let t : eqb (i + 1) n ≡ true = eq-eqb _ _ e in rw t (omega arith))
-    (λ (e : i + 1 ≡ n → ⊥). let t : eqb (i + 1) n ≡ false = ne_eqb _ _ e in rw t (omega arith))
-    (same_or_not (i + 1) n)
 
 module _ {C : Type 0} (d : C) (hit : C → C → Bool) (cs : List C) (i : ℕ) where
   abbrev ms : List Bool
@@ -238,7 +211,7 @@ module _ {C : Type 0} (d : C) (hit : C → C → Bool) (cs : List C) (i : ℕ) w
       let j = next_of n i in
       let b = hit (before_of d cs i) (get_or (del i cs) t d) in
       let hi : i < length ms = rw long h in
-      let ht : t < length (del i ms) = omega (arith, length_del i ms hi, long, there_fits n i h two) in
+      let ht : t < length (del i ms) = omega (arith, length_del i ms hi, long, there_below n i h two) in
       ap (λ (l : List Bool). exactly_one (odd l) (odd ms)) (sym (del_one d hit cs i h))
       ∙ by_way (odd (set (del i ms) t b)) (odd (del i ms)) (odd ms)
       ∙ rw (odd_set (del i ms) t b ht, odd_del ms i hi, del_next false ms i n two h) (three' (get_or ms i false) (get_or ms j false) b (odd (del i ms)) ∙ rw (mark_at i h, mark_at j (next_below n i h), before_next d cs i h, del_next d cs i n two h))

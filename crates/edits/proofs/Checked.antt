@@ -10,9 +10,10 @@ use borrow.Author.Tests.{ltb-true, ltb-false, leb-true, leb-false, eq-eqb, ne_eq
 use Rattle.std.specs.declared.result.Result.{Result}
 use Rattle.std.specs.declared.result.Result.TheVariants.{Ok, Err}
 use Rattle.std.specs.Prelude.{⊤}
-use Rattle.std.specs.Result.{MatchResult, IsOkAnd}
+use Rattle.std.specs.Result.{MatchResult, IsOkAnd, result_and}
 use Rattle.coo3d.specs.declared.Coo3D.{Coo3D}
 use Rattle.domain.specs.Checks.{point_at, with_count}
+use Rattle.domain.proofs.Counts.{count_in, count_answered, count_refused}
 use Rattle.lists.proofs.Cyclic.{same_or_not}
 use Rattle.refusal.specs.Answer.{Answer, answered, refused, refused_for, refuse_if, and_then, answer_of}
 use Rattle.refusal.specs.declared.Cause.{Cause}
@@ -112,14 +113,10 @@ module _ {A : Type 0} (v : View) (k : A → Edit) (of : A → Bool) (flag : Bool
       go false false (refused number values) = refl
 
 module _ (v : View) where
-  pub turn_by : edit_of turn v ≡ and_then (and_then {A = ⊤} (with_count v.count (answered tt)) (λ a. answered (not v.flag))) (λ b. answered (with_flag v b))
+  pub turn_by : (d : Result ⊤ Cause) → answer_of d ≡ with_count v.count (answered tt) → edit_of turn v ≡ and_then (answer_of (result_and d (Ok (not v.flag)))) (λ b. answered (with_flag v b))
   unfolding edit_of checked changed
-  turn_by = go (eqb v.count 0) (ltb 64 v.count)
-    where
-      go : (none many : Bool) → and_then (refuse_if none 2 [] (refuse_if many 3 [] (answered turn))) (λ e. answered (changed e v)) ≡ and_then (and_then {A = ⊤} (refuse_if none 2 [] (refuse_if many 3 [] (answered tt))) (λ a. answered (not v.flag))) (λ b. answered (with_flag v b))
-      go true many = refl
-      go false true = refl
-      go false false = refl
+  turn_by (Ok done) e = rw (count_in v.count (answered turn) (count_answered v.count (answered tt) done (sym e))) refl
+  turn_by (Err cause) e = rw (← count_refused v.count tt (answered turn) e)
 
   pub hold_by : (p : Coo3D) → edit_of (hold p) v ≡ and_then (and_then (contains_of v p) (λ b. answered (cond b v.flag (not v.flag)))) (λ b. answered (with_flag v b))
   unfolding edit_of checked contains_of changed

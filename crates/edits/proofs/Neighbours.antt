@@ -62,14 +62,14 @@ module _ {A : Type 0} (d : A) where
   ins_here [] (suc i) p h = absurd (not-suc-le-zero h)
   ins_here (a ∷ l) (suc i) p h = ins_here l i p (le_of_suc-le-suc h)
 
-  ins_front : (l : List A) (i k : ℕ) (p : A) → i ≤ length l → k < i → get_or (ins i p l) k d ≡ get_or l k d
+  pub ins_front : (l : List A) (i k : ℕ) (p : A) → i ≤ length l → k < i → get_or (ins i p l) k d ≡ get_or l k d
   unfolding ins
   ins_front l zero k p h b = absurd (not-suc-le-zero b)
   ins_front [] (suc i) k p h b = absurd (not-suc-le-zero h)
   ins_front (a ∷ l) (suc i) zero p h b = refl
   ins_front (a ∷ l) (suc i) (suc k) p h b = ins_front l i k p (le_of_suc-le-suc h) (le_of_suc-le-suc b)
 
-  del_front : (l : List A) (i k : ℕ) → k < i → get_or (del i l) k d ≡ get_or l k d
+  pub del_front : (l : List A) (i k : ℕ) → k < i → get_or (del i l) k d ≡ get_or l k d
   unfolding del
   del_front [] i k b = refl
   del_front (a ∷ l) zero k b = absurd (not-suc-le-zero b)

@@ -46,13 +46,15 @@ fn index_left(n: usize, i: usize) -> usize
     if i + 1 == n { 0 } else { i }
 }
 
-// The corner to be set, after the table's tests in their order: the count, the index, the point.
+// The corner to be set, after the table's tests in their order: the count, the index, the point. Insert's most is 63, so these tests of the count
+// are not those of domain::check_count.
 fn corner_for(count: usize, most: usize, there: bool, corner: Coo3D) -> Result<Coo3D, Cause>
-    requires { most ≤ 64 }
     ensures answer { answer_of result ≡ refuse_if (eqb count 0) 2 [] (refuse_if (ltb most count) 3 [] (refuse_if (not there) 4 [] (point_at 0 corner))) }
     ensures inside { OnOk result ((0 < count) × ((count ≤ most) × (there ≡ true))) }
 {
-    domain::check_count(count)?;
+    if count == 0 {
+        return Err(Cause::NoPoint);
+    }
     if count > most {
         return Err(Cause::TooManyPoints);
     }
@@ -67,10 +69,10 @@ fn removable(count: usize, i: usize) -> Result<(), Cause>
     ensures answer { outcome_of result (edit.remove i) ≡ checked count (edit.remove i) }
     ensures inside { OnOk result ((i < count) × ((1 < count) × (count ≤ 64))) }
 {
-    domain::check_count(count)?;
-    if count == 1 {
+    if count <= 1 {
         return Err(Cause::NoPoint);
     }
+    domain::check_count(count)?;
     if i >= count {
         return Err(Cause::NoSuchIndex);
     }
@@ -182,7 +184,8 @@ pub fn remove(r: Region, i: usize) -> EditAnswer
 
 // The region with the flag, where there is one. Its one copy is made where both cases have met.
 fn flagged(r: Region, flag: Result<bool, Cause>) -> EditAnswer
-    ensures { (outcome_of result.outcome (view_of result.region) ≡ and_then (answer_of flag) (λ b. answered (with_flag (view_of r) b))) × ((cause : Cause) → result.outcome ≡ Err cause → result.region ≡ r) }
+    ensures answer { outcome_of result.outcome (view_of result.region) ≡ and_then (answer_of flag) (λ b. answered (with_flag (view_of r) b)) }
+    ensures kept { (cause : Cause) → result.outcome ≡ Err cause → result.region ≡ r }
 {
     let mut region = r;
     let outcome = match flag {
@@ -198,8 +201,8 @@ fn flagged(r: Region, flag: Result<bool, Cause>) -> EditAnswer
 pub fn turn(r: Region) -> EditAnswer
     ensures { Edited edit.turn r result }
 {
-    let flag = r.contains_south_pole;
-    flagged(r, domain::check_count(r.count).map(|_| !flag))
+    let turned = !r.contains_south_pole;
+    flagged(r, domain::check_count(r.count).and(Ok(turned)))
 }
 
 // Upstream: `must_contain`. The flag is turned where the point isn't contained.

@@ -172,8 +172,12 @@ pub fn set_flag(file: &mut [u8], flag: bool) -> Result<(), Cause>
     ensures answer { outcome_of result true ≡ verdict (trailer_of file.old) }
     ensures file_after { file.new ≡ with_flag_field file.old flag }
 {
-    read_trailer(file)?;
-    let at = file.len() - 12;
-    put_u32(file, at, flag as u32);
-    Ok(())
+    match read_trailer(file) {
+        Err(cause) => Err(cause),
+        Ok(_) => {
+            let at = file.len() - 12;
+            put_u32(file, at, flag as u32);
+            Ok(())
+        }
+    }
 }
