@@ -15,7 +15,8 @@ use coo3d::Coo3D;
 use refusal::Cause;
 use region::{ContainsSouthPoleMethod, Region};
 
-// The region beside the outcome. A refusal hands it back as it was, and an enum round it would cost one more copy of its 4 KB.
+// The region beside the outcome: a refusal hands it back as it was, so that this is no `Result`, which would cost one more copy of its 4 KB. `region::Built` has
+// the same fields, but beside a refusal it has the empty region.
 #[derive(Clone, Copy)]
 pub struct EditAnswer {
     pub region: Region,
@@ -24,7 +25,7 @@ pub struct EditAnswer {
 
 // The index before i, of n.
 fn index_before(n: usize, i: usize) -> usize
-    requires { (0 < n) × ((n ≤ 64) × (i ≤ n)) }
+    requires { (0 < n) × (i ≤ n) }
     ensures { (result ≡ prev_of n i) × (result < n) }
 {
     if i == 0 { n - 1 } else { i - 1 }
@@ -32,7 +33,7 @@ fn index_before(n: usize, i: usize) -> usize
 
 // The index after i, of n.
 fn next_index(n: usize, i: usize) -> usize
-    requires { (i < n) × (n ≤ 64) }
+    requires { i < n }
     ensures { (result ≡ next_of n i) × (result < n) }
 {
     if i + 1 == n { 0 } else { i + 1 }
@@ -40,7 +41,7 @@ fn next_index(n: usize, i: usize) -> usize
 
 // Where the corner after corner i stands once that one is gone.
 fn index_left(n: usize, i: usize) -> usize
-    requires { (i < n) × ((1 < n) × (n ≤ 64)) }
+    requires { (i < n) × (1 < n) }
     ensures { (result ≡ there_of n i) × (result < n - 1) }
 {
     if i + 1 == n { 0 } else { i }

@@ -20,7 +20,8 @@ pub struct Trailer {
     pub count: usize,
 }
 
-// `N` bytes, copied out.
+// `N` bytes, copied out. Bytes are taken, here and below, by the file and a place in it, as document 01 has a field: of a slice cut out beforehand, each contract
+// would ask for its length in place of the room behind the place.
 fn bytes_at<const N: usize>(s: &[u8], at: usize) -> [u8; N]
     requires { at + N ≤ length s.now }
     ensures { result ≡ take N (drop at s.now) }
@@ -172,12 +173,8 @@ pub fn set_flag(file: &mut [u8], flag: bool) -> Result<(), Cause>
     ensures answer { outcome_of result true ≡ verdict (trailer_of file.old) }
     ensures file_after { file.new ≡ with_flag_field file.old flag }
 {
-    match read_trailer(file) {
-        Err(cause) => Err(cause),
-        Ok(_) => {
-            let at = file.len() - 12;
-            put_u32(file, at, flag as u32);
-            Ok(())
-        }
-    }
+    read_trailer(file)?;
+    let at = file.len() - 12;
+    put_u32(file, at, flag as u32);
+    Ok(())
 }
