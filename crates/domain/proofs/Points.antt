@@ -1,16 +1,27 @@
--- Laws of `points_from` and `points_of`, for callers and for the loop that checks the points in order.
+-- Laws of `point_at`, `points_from` and `points_of`, for callers and for the loop that checks the points in order.
 use Prim.Native.Nat.{ℕ, ◌+◌, ◌≤◌, ◌<◌}
 use native.Mathlib.Numerals.{add-one}
 use native.Mathlib.Omega.{arith}
-use mathlib.Core.Path.{◌≡◌, sym, ap, ◌∙◌}
-use mathlib.Core.List.{List, ◌∷◌, ◌++◌, append-nil}
+use mathlib.Core.Path.{◌≡◌, refl, sym, ap, ◌∙◌}
+use mathlib.Core.Bool.{Bool, true, false, not}
+use mathlib.Core.List.{List, [], ◌∷◌, ◌++◌, append-nil}
 use lib.ListN.{length, take, drop, get_or, set}
 use Rattle.coo3d.specs.declared.Coo3D.{Coo3D}
 use Rattle.lists.proofs.Passing.{next_left, none_left, stored}
-use Rattle.refusal.specs.Answer.{Answer, answered, refused, and_then}
-use Rattle.refusal.proofs.Answers.{then_answered, then_assoc, then_same}
+use Rattle.refusal.specs.Answer.{Answer, answered, refused, refuse_if, and_then}
+use Rattle.refusal.proofs.Answers.{then_answered, then_assoc, then_same, never}
+use Rattle.domain.specs.Domain.{in_domain}
 use Rattle.domain.specs.Checks.{point_at, points_from, points_of}
 use Rattle.domain.proofs.Counts.{count_answered}
+
+-- what is refused by a test is refused as 1, with its index
+test_refused : {A : Type 0} (b : Bool) (i : ℕ) (a : A) (n : ℕ) (vs : List ℕ) → refused n vs ≡ refuse_if (not b) 1 (i ∷ []) (answered a) → refuse_if (not b) 1 (i ∷ []) (answered a) ≡ refused 1 (i ∷ [])
+test_refused true i a n vs e = never e
+test_refused false i a n vs e = refl
+
+pub point_refused : (i : ℕ) (p : Coo3D) (n : ℕ) (vs : List ℕ) → refused n vs ≡ point_at i p → point_at i p ≡ refused 1 (i ∷ [])
+unfolding point_at
+point_refused i p = test_refused (in_domain p) i p
 
 -- ---- the loop: the points from i on are still to be checked, and those before it are in `out`
 

@@ -3,7 +3,7 @@ use Prim.Native.Nat.{ℕ, ◌+◌, ◌-◌, ◌≤◌, ◌<◌}
 use native.Mathlib.Omega.{arith}
 use mathlib.Core.Path.{◌≡◌, sym, ap, ◌∙◌}
 use mathlib.Core.Bool.{Bool, true, false}
-use mathlib.Core.List.{List}
+use mathlib.Core.List.{List, [], ◌∷◌}
 use lib.Ieee.{Float, lt}
 use lib.ListN.{length, get_or}
 use Rattle.coo3d.specs.declared.Coo3D.{Coo3D}
@@ -11,9 +11,10 @@ use Rattle.coo3d.specs.Vectors.{vect_of_point, dot_of}
 use Rattle.float.specs.Doubles.{nought}
 use Rattle.domain.specs.Checks.{point_at, with_count}
 use Rattle.domain.proofs.Counts.{count_few, count_in}
+use Rattle.domain.proofs.Points.{point_refused}
 use Rattle.lists.specs.Counts.{exactly_one, odd_many}
 use Rattle.lists.proofs.Odd.{odd_turn, odd_done, one_false}
-use Rattle.refusal.specs.Answer.{answered, and_then}
+use Rattle.refusal.specs.Answer.{answered, refused, and_then}
 use Rattle.region.specs.declared.Region.{Region}
 use Rattle.region.specs.Edges.{Edge, in_lon_range, is_counted}
 use Rattle.region.specs.View.{View, view_of, nowhere, odd_at, contained, edges_of}
@@ -23,6 +24,9 @@ use Rattle.region.proofs.Edges.{edges_left, edge_at, start, turn, done}
 -- ---- whatever is asked of a region and a point
 
 module _ {A : Type 0} (count : ℕ) (p : Coo3D) (f : Coo3D → A) (some : count ≡ 0 → ⊥) (few : count ≤ 64) where
+  pub asked_outside : (n : ℕ) (vs : List ℕ) → refused n vs ≡ point_at 0 p → with_count count (and_then (point_at 0 p) (λ q. answered (f q))) ≡ refused 1 (0 ∷ [])
+  asked_outside n vs e = rw (count_few count (and_then (point_at 0 p) (λ q. answered (f q))) some few, point_refused 0 p n vs e)
+
   pub asked_inside : (q : Coo3D) → answered q ≡ point_at 0 p → with_count count (and_then (point_at 0 p) (λ q. answered (f q))) ≡ answered (f q)
   asked_inside q e = rw (count_few count (and_then (point_at 0 p) (λ q. answered (f q))) some few, sym e)
 

@@ -7,7 +7,7 @@ use mathlib.Core.Bool.{Bool, true, false, cond}
 use mathlib.Core.List.{List, [], ◌∷◌, ◌++◌, append_assoc}
 use mir.Val.{bool_byte}
 use lib.ListN.{length, take, drop, get_or, set, length-drop}
-use lib.Seq.{sets, sets-eq, drop-drop, take_all, take-suc, length-take-le}
+use lib.Seq.{sets, sets-eq, drop-cons, drop-drop, take-add, take_all, take-suc, length-take-le}
 use borrow.Rule.Slice.PartMut.{put_mid}
 use Rattle.std.specs.Int.{w32, w64, byte_at, byte_worth, bytes_low_first, sum_through, from_le_bytes}
 use Rattle.region_file.specs.Bytes.{number_in, bytes_of, number_at}
@@ -42,6 +42,31 @@ number_append (x ∷ xs) ys =
 pub flag_number : (b : Bool) → bool_byte b ≡ cond b 1 0
 flag_number true = refl
 flag_number false = refl
+
+-- ---- what four and eight bytes hold, byte by byte
+
+module _ (s : List ℕ) (at : ℕ) where
+  pub at_four : at + 4 ≤ length s → number_at 4 s at ≡ get_or s at 0 + 256 * get_or s (at + 1) 0 + 65536 * get_or s (at + 2) 0 + 16777216 * get_or s (at + 3) 0
+  unfolding number_at number_in
+  at_four h =
+      let a : at < length s = omega (arith, h) in
+      let b : suc at < length s = omega (arith, h) in
+      let c : suc (suc at) < length s = omega (arith, h) in
+      let d : suc (suc (suc at)) < length s = omega (arith, h) in
+      let b' : at + 1 ≡ suc at = omega arith in
+      let c' : at + 2 ≡ suc (suc at) = omega arith in
+      let d' : at + 3 ≡ suc (suc (suc at)) = omega arith in
+      rw (drop-cons s at 0 a, drop-cons s (suc at) 0 b, drop-cons s (suc (suc at)) 0 c, drop-cons s (suc (suc (suc at))) 0 d, b', c', d')
+      (four _ _ _ _)
+    where
+      four : (a b c d : ℕ) → a + 256 * (b + 256 * (c + 256 * (d + 0))) ≡ a + 256 * b + 65536 * c + 16777216 * d
+      four a b c d = omega arith
+
+  pub at_eight : at + 8 ≤ length s → number_at 8 s at ≡ number_at 4 s at + 4294967296 * number_at 4 s (at + 4)
+  unfolding number_at
+  at_eight h =
+      let l : 4 ≤ length (drop at s) = omega (arith, h, length-drop at s) in
+      ap number_in (take-add 4 4 (drop at s)) ∙ number_append (take 4 (drop at s)) (take 4 (drop 4 (drop at s))) ∙ rw (length-take-le 4 (drop at s) l, drop-drop 4 at s)
 
 -- ---- the library's words
 
