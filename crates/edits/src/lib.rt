@@ -23,7 +23,7 @@ pub struct EditAnswer {
     pub outcome: Result<(), Cause>,
 }
 
-// The index before i, of n.
+// The index before i, of n. Each of these is asked once in a call, so that a struct of the two numbers would be made for one question.
 fn index_before(n: usize, i: usize) -> usize
     requires { (0 < n) × (i ≤ n) }
     ensures { (result ≡ prev_of n i) × (result < n) }

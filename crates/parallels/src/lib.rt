@@ -104,40 +104,6 @@ fn second_degree(
     }
 }
 
-// Case A: n.x is not 0.
-#[tactic(auto, unfolding(crate::specs::Parallels::case_a))]
-fn case_a(pa: Coo3D, pb: Coo3D, n: Vect3, z: f64, lat_cos: f64) -> Option<UnitVect3>
-    ensures { result ≡ case_a pa pb n z lat_cos }
-{
-    let xn2 = n.x * n.x;
-    let two_a = 2.0 * ((n.y * n.y) / xn2 + 1.0);
-    let b = 2.0 * n.y * n.z * z / xn2;
-    let c = (n.z * n.z) * (z * z) / xn2 - lat_cos * lat_cos;
-    second_degree(pa, pb, n, z, two_a, b, b * b - 2.0 * two_a * c)
-}
-
-// Case B: n.x is 0.
-#[tactic(auto, unfolding(crate::specs::Parallels::case_b))]
-fn case_b(pa: Coo3D, pb: Coo3D, n: Vect3, z: f64, lat_cos: f64) -> Option<UnitVect3>
-    ensures { result ≡ case_b pa pb n z lat_cos }
-{
-    if n.y == 0.0 {
-        if (z == 0.0) & (z == pa.z) {
-            Some(UnitVect3 {
-                x: pa.x,
-                y: pa.y,
-                z: pa.z,
-            })
-        } else {
-            None
-        }
-    } else {
-        let x = root::sqrt(lat_cos * lat_cos - (n.z * n.z) * (z * z) / (n.y * n.y));
-        let y = -n.z * z / n.y;
-        either(UnitVect3 { x, y, z }, UnitVect3 { x: -x, y, z }, pa, pb)
-    }
-}
-
 // A latitude with its sine and cosine.
 #[derive(Clone, Copy)]
 struct Parallel {
@@ -157,6 +123,42 @@ impl Parallel {
         }
     }
 
+    // Case A: n.x is not 0.
+    #[tactic(auto, unfolding(crate::specs::Parallels::case_a))]
+    fn case_a(&self, pa: Coo3D, pb: Coo3D, n: Vect3) -> Option<UnitVect3>
+        ensures { result ≡ case_a pa pb n self.now.sin self.now.cos }
+    {
+        let z = self.sin;
+        let xn2 = n.x * n.x;
+        let two_a = 2.0 * ((n.y * n.y) / xn2 + 1.0);
+        let b = 2.0 * n.y * n.z * z / xn2;
+        let c = (n.z * n.z) * (z * z) / xn2 - self.cos * self.cos;
+        second_degree(pa, pb, n, z, two_a, b, b * b - 2.0 * two_a * c)
+    }
+
+    // Case B: n.x is 0.
+    #[tactic(auto, unfolding(crate::specs::Parallels::case_b))]
+    fn case_b(&self, pa: Coo3D, pb: Coo3D, n: Vect3) -> Option<UnitVect3>
+        ensures { result ≡ case_b pa pb n self.now.sin self.now.cos }
+    {
+        let z = self.sin;
+        if n.y == 0.0 {
+            if (z == 0.0) & (z == pa.z) {
+                Some(UnitVect3 {
+                    x: pa.x,
+                    y: pa.y,
+                    z: pa.z,
+                })
+            } else {
+                None
+            }
+        } else {
+            let x = root::sqrt(self.cos * self.cos - (n.z * n.z) * (z * z) / (n.y * n.y));
+            let y = -n.z * z / n.y;
+            either(UnitVect3 { x, y, z }, UnitVect3 { x: -x, y, z }, pa, pb)
+        }
+    }
+
     // The crossing of an edge whose latitudes fit. The edge comes in its parts: an `Edge` would be copied, and a list took up to a thirtieth more
     // instructions by it. Case B also takes the ends in another order.
     fn point_of(&self, from: Coo3D, to: Coo3D, n: Vect3) -> Option<UnitVect3>
@@ -164,10 +166,10 @@ impl Parallel {
     {
         // Case A does not ask which end is the southern one.
         if n.x != 0.0 {
-            case_a(from, to, n, self.sin, self.cos)
+            self.case_a(from, to, n)
         } else {
             let (pa, pb) = by_latitude(from, to);
-            case_b(pa, pb, n, self.sin, self.cos)
+            self.case_b(pa, pb, n)
         }
     }
 }

@@ -256,7 +256,8 @@ pub fn check_rule(
 }
 
 // Whether an odd number of edges is counted at a point that was checked: the flag and the side of the point tell it. Here and below a count of
-// 1 to 64 is asked for and is no invariant of `Region`: its fields are public, and a value handed in may have any count.
+// 1 to 64 is asked for. It is no invariant of `Region`, whose fields are public: a value handed in may have any count. Of a type that holds a counted
+// region by reference, `build` would copy its answer once more.
 fn odd_at(r: Region, p: Coo3D) -> bool
     requires { (0 < r.count) × (r.count ≤ 64) × (point_at 0 p ≡ answered p) }
     ensures { result ≡ odd_at p (view_of r) }
