@@ -14,6 +14,7 @@ use crossings::{AllAnswer, Curve};
 use refusal::Cause;
 use region::Region;
 
+// Of three numbers as a caller gives them: a `Parallel` is one that was checked.
 fn is_parallel(lat: f64, sin: f64, cos: f64) -> bool
     ensures { result ≡ is_parallel lat sin cos }
 {
