@@ -3,15 +3,15 @@ use Prim.Native.Nat.{ℕ, zero, suc, ◌+◌, ◌≤◌, ◌<◌}
 use native.Mathlib.Nat.{le_of_suc-le-suc, not-suc-le-zero}
 use native.Mathlib.Numerals.{add-one}
 use native.Mathlib.Omega.{arith}
-use mathlib.Core.Path.{◌≡◌, refl, sym, ap}
+use mathlib.Core.Path.{◌≡◌, refl, sym, ap, ◌∙◌}
 use mathlib.Core.Logic.{◌⊎◌, inl, inr, ⊎_elim}
-use mathlib.Core.Bool.{Bool, true, false}
+use mathlib.Core.Bool.{Bool, true, false, cond}
 use mathlib.Core.List.{List, [], ◌∷◌}
 use borrow.Author.Tests.{eqb-true, eqb-false, eq-eqb, ne_eqb}
 use lib.Dec.{eqb}
 use lib.ListN.{length, get_or, set, length-set}
 use lib.Seq.{set_out}
-use Rattle.lists.specs.Cyclic.{last_of, ins, del, along, next_of, there_of, put_along, ins_along, del_along}
+use Rattle.lists.specs.Cyclic.{last_of, ins, del, along, next_of, there_of, before_of, put_along, ins_along, del_along}
 
 pub same_or_not : (a b : ℕ) → (a ≡ b) ⊎ (a ≡ b → ⊥)
 same_or_not a b = go (eqb a b) refl
@@ -77,6 +77,25 @@ module _ {A : Type 0} where
       empty [] h = refl
       empty (y ∷ m) h = absurd (omega arith)
   last_del (x ∷ l) f d (suc i) e = last_del l x d i (omega arith)
+
+  -- the last element once one is inserted, or one of several is taken out
+  pub last_inserted : (l : List A) (d a : A) (i : ℕ) → i ≤ length l → cond (eqb i (length l)) a (last_of d l) ≡ last_of d (ins i a l)
+  last_inserted l d a i h =
+      ⊎_elim
+      (λ (e : i ≡ length l). rw (eq-eqb i (length l) e) (sym (ap (λ (k : ℕ). last_of d (ins k a l)) e ∙ last_ins l d a)))
+      (λ (e : i ≡ length l → ⊥). rw (ne_eqb i (length l) e) (sym (last_ins_kept l d a i (omega arith))))
+      (same_or_not i (length l))
+
+  pub last_deleted : (l : List A) (d : A) (i : ℕ) → i < length l → 1 < length l → cond (eqb (i + 1) (length l)) (before_of d l i) (last_of d l) ≡ last_of d (del i l)
+  last_deleted l d i h two =
+      ⊎_elim
+      (λ (e : i + 1 ≡ length l). rw (eq-eqb (i + 1) (length l) e) (before i (omega arith) ∙ sym (last_del l d d i (omega arith))))
+      (λ (e : i + 1 ≡ length l → ⊥). rw (ne_eqb (i + 1) (length l) e) (sym (last_del_kept l d i (omega arith))))
+      (same_or_not (i + 1) (length l))
+    where
+      before : (k : ℕ) → 0 < k → before_of d l k ≡ get_or (d ∷ l) k d
+      before zero p = absurd (not-suc-le-zero p)
+      before (suc k) p = refl
 
 module _ {C N : Type 0} (d : C) (normal : C → C → N) where
   abbrev from : C → List C → List N
