@@ -138,6 +138,7 @@ impl ToWords for Vect3 {
     }
 }
 
+// By the vector's words, which are the same.
 impl ToWords for UnitVect3 {
     fn put_to(&self, words: &mut Writer<'_>) -> stream::Result<()> {
         self.to_vect3().put_to(words)

@@ -1,6 +1,7 @@
 // The loops that `make bench` times. Each calls one public function once for each entry of a slice, as a program would, and answers a checksum
 // of what it was answered, which the benchmark holds to upstream's. They are no calls of the product: no contract says what they answer, and
-// what is proved of them is that they are safe and end.
+// what is proved of them is that they are safe and end. The benchmark's driver calls each by its name, so that each writes out its parameters, and
+// hands over plain numbers: points and vectors are fives and threes in a slice, a flag and a rule are words.
 #![tactic(auto)]
 
 ghost use Rattle.std.specs.Prelude.{◌≤◌, ◌<◌, length};
@@ -283,6 +284,16 @@ fn sum_over_flags<F: Fn(usize) -> EditAnswer>(n: usize, edit: F) -> u64
     sum
 }
 
+// What is looked at of an edit of the flag: of its region a fixed entry, as of what was built.
+fn flag_answer(answer: EditAnswer) -> (Result<(), Cause>, bool, Vect3) {
+    let edited = answer.region;
+    (
+        answer.outcome,
+        edited.contains_south_pole,
+        edited.cross_products[0],
+    )
+}
+
 fn rule_of(number: u64, control_point: Coo3D) -> ContainsSouthPoleMethod {
     if number == 4 {
         ContainsSouthPoleMethod::ControlPointIn(control_point)
@@ -500,15 +511,7 @@ pub extern "C" fn bench_turn(corners: &[f64], normals: &[f64], flag: u64, n: usi
 #[unsafe(no_mangle)]
 pub extern "C" fn bench_hold(corners: &[f64], normals: &[f64], flag: u64, points: &[f64]) -> u64 {
     let region = region_of(corners, normals, flag);
-    sum_over_points(points, |p| {
-        let answer = edits::hold(region, p);
-        let edited = answer.region;
-        (
-            answer.outcome,
-            edited.contains_south_pole,
-            edited.cross_products[0],
-        )
-    })
+    sum_over_points(points, |p| flag_answer(edits::hold(region, p)))
 }
 
 #[unsafe(no_mangle)]
@@ -519,15 +522,7 @@ pub extern "C" fn bench_hold_lent(
     points: &[f64],
 ) -> u64 {
     let region = region_of(corners, normals, flag);
-    sum_over_points(points, |p| {
-        let answer = lending::hold_on_lent(region, p);
-        let edited = answer.region;
-        (
-            answer.outcome,
-            edited.contains_south_pole,
-            edited.cross_products[0],
-        )
-    })
+    sum_over_points(points, |p| flag_answer(lending::hold_on_lent(region, p)))
 }
 
 #[unsafe(no_mangle)]

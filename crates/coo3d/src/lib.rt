@@ -130,6 +130,7 @@ pub fn is_unit_from_norm(norm: f64) -> bool
     float::max(step, -step) <= f64::EPSILON
 }
 
+// A conversion for each of the two types: one for whatever has `Vec3` would take a vector too, which std's own does already.
 impl From<Coo3D> for Vect3 {
     ghost from_gives = { λ p v. v ≡ vect_of_point p };
 

@@ -188,7 +188,7 @@ fn region_edges(rt: &impl Print) -> io::Result<()> {
     tell::call(rt, "Region::edges")?;
     let s = square();
     for edge in s.edges() {
-        tell::answer(rt, edge.to.to_vect3())?;
+        tell::answer(rt, edge.to)?;
     }
     Ok(())
 }
@@ -633,7 +633,7 @@ fn coo3d_is_unit_from_norm(rt: &impl Print) -> io::Result<()> {
 fn coo3d_coo3d_origin(rt: &impl Print) -> io::Result<()> {
     tell::call(rt, "Coo3D::origin")?;
     let o = Coo3D::origin();
-    tell::answer(rt, o.to_vect3())?;
+    tell::answer(rt, o)?;
     Ok(())
 }
 
@@ -963,7 +963,7 @@ fn insert_at_the_count(rt: &impl Print) -> io::Result<()> {
     let r = edited.region;
     tell::answer(rt, region::contains(r, p))?;
     let last = r.vertices[4];
-    tell::answer(rt, last.to_vect3())?;
+    tell::answer(rt, last)?;
     Ok(())
 }
 
@@ -1029,7 +1029,7 @@ fn minus_zero_in_a_file(rt: &impl Print) -> io::Result<()> {
     let read = region_file::read(&file);
     let r = read.region;
     let corner = r.vertices[0];
-    tell::answer(rt, corner.to_vect3())?;
+    tell::answer(rt, corner)?;
     tell::answer(rt, corner.lon)?;
     Ok(())
 }

@@ -78,7 +78,8 @@ fn either(p: UnitVect3, q: UnitVect3, pa: Coo3D, pb: Coo3D) -> Option<UnitVect3>
     }
 }
 
-// Cases A.1 and A.2, and no real solution: y by an equation of the second degree.
+// Cases A.1 and A.2, and no real solution: y by an equation of the second degree, whose numbers case A has worked out. As `either`, but the second point
+// is worked out only where the first does not lie on the edge.
 fn second_degree(
     pa: Coo3D,
     pb: Coo3D,

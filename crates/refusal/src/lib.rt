@@ -27,7 +27,7 @@ pub enum Cause {
     ZoneBounds,
 }
 
-// The cause's number in the table.
+// The cause's number in the table: a call of the manual, which C's numbers are made of.
 pub fn number(cause: Cause) -> u64
     ensures { result ≡ number_of cause }
 {
@@ -44,7 +44,7 @@ pub fn number(cause: Cause) -> u64
     }
 }
 
-// The answer of a question.
+// The answer of a question: a call of the manual. `Ok` says the same.
 pub fn decide(yes: bool) -> Result<bool, Cause>
     ensures { answer_of result ≡ answered yes }
 {

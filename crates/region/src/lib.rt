@@ -14,7 +14,8 @@ use coo3d::{Coo3D, Vect3};
 use refusal::Cause;
 
 // The first `count` entries of the two arrays are the corners, and each edge's normal; the others are free. Edge i runs from corner i - 1 to
-// corner i, edge 0 from the last corner. A value handed in counts as its fields are.
+// corner i, edge 0 from the last corner. A value handed in counts as its fields are. Arrays beside a count, since there is no heap; two of them, and
+// not one of edges, since an edge's two ends would stand in it twice.
 #[derive(Clone, Copy)]
 pub struct Region {
     pub vertices: [Coo3D; 64],
@@ -195,7 +196,7 @@ fn basic(corners: &[Coo3D]) -> bool
     (float::abs(sum_delta_lon) > float::PI) & (gravity_center_z < 0.0)
 }
 
-// The edges are passed here and not in a helper, which would copy the region. The normals are copied once an edge is in range, and a point in no
+// The edges are passed here and not in a helper by value, which would copy the region. The normals are copied once an edge is in range, and a point in no
 // edge's range needs none of them.
 // By `edges`, or in one loop, 4 corners take a fifth more instructions; by `Edge::is_counted`, 64 corners take a twentieth more.
 pub fn contains(r: Region, coo: Coo3D) -> Result<bool, Cause>

@@ -20,8 +20,8 @@ pub struct Trailer {
     pub count: usize,
 }
 
-// `N` bytes, copied out. Bytes are taken, here and below, by the file and a place in it, as document 01 has a field: of a slice cut out beforehand, each contract
-// would ask for its length in place of the room behind the place.
+// `N` bytes, copied out. Bytes are taken, here and below, by the file and a place in it, as document 01 and the definitions have a field: of a slice cut out
+// beforehand, each contract would ask for its length in place of the room behind the place, and of an array the caller would.
 fn bytes_at<const N: usize>(s: &[u8], at: usize) -> [u8; N]
     requires { at + N ≤ length s.now }
     ensures { result ≡ take N (drop at s.now) }
@@ -58,7 +58,7 @@ fn corner_at(s: &[u8], at: usize) -> Coo3D
     }
 }
 
-// All corners, copied out: an array whose first `count` they are, since there is no heap.
+// All corners, copied out: an array whose first `count` they are, since there is no heap. `check_count` gave a count of at most 64.
 fn corners_at(s: &[u8], at: usize, count: usize) -> [Coo3D; 64]
     requires { (count ≤ 64) × (at + 40 * count ≤ length s.now) }
     ensures { take count result ≡ corners_at s.now at count }
@@ -140,6 +140,7 @@ fn put_corner(s: &mut [u8], at: usize, p: Coo3D)
     put_double(s, at + 32, p.lat);
 }
 
+// Of a count of at most 64, so that the length fits its four bytes.
 fn put_trailer(s: &mut [u8], at: usize, flag: bool, count: usize)
     requires { (count ≤ 64) × (at + 16 ≤ length s.old) }
     ensures { s.new ≡ sets s.old at (trailer_bytes flag count) }

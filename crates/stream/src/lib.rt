@@ -101,7 +101,7 @@ impl<'a> Reader<'a> {
         }
     }
 
-    // As many bytes as are lent, eight to a word.
+    // As many bytes as are lent, eight to a word. `zip` ends with the shorter of the two, so that nothing need be known of the last chunk's length.
     pub fn get_bytes(&mut self, bytes: &mut [u8]) -> Result<()> {
         for chunk in bytes.chunks_mut(8) {
             let word: u64 = self.get()?;
@@ -201,7 +201,7 @@ impl<'a> Writer<'a> {
         Ok(())
     }
 
-    // Eight bytes to a word, the last one filled up with zero bytes.
+    // Eight bytes to a word, the last one filled up with zero bytes: by `zip`, as above.
     pub fn put_bytes(&mut self, bytes: &[u8]) -> Result<()> {
         for chunk in bytes.chunks(8) {
             let mut word = [0; 8];

@@ -167,6 +167,7 @@ impl Tell for Vect3 {
     }
 }
 
+// By the vector's line, which is the same; so the point's.
 impl Tell for UnitVect3 {
     fn tell<R: Print>(&self, rt: &R) -> io::Result<()> {
         self.to_vect3().tell(rt)

@@ -120,7 +120,7 @@ impl Zone {
         }
     }
 
-    // The zone without any edge.
+    // The zone without any edge. As upstream, a function of its own: what it shares with `contains` is no comparison but their order.
     pub fn contains_exclusive(self, lon: f64, lat: f64) -> bool
         ensures { result ≡ zone_contains_exclusive self lon lat }
     {
