@@ -1,8 +1,9 @@
--- Laws of `first_of` for a loop that has the crossing of each edge tested, and what the first answer is to the list.
+-- Laws of `first_of` for a loop that passes what edges give, tested, and what the first answer is to the list.
 use mathlib.Core.Path.{◌≡◌, refl, sym, ap, ◌∙◌}
 use mathlib.Core.Bool.{Bool, true, false, not, ◌&&◌}
 use mathlib.Core.List.{List, [], ◌∷◌, ◌++◌}
 use lib.ListN.{take}
+use Rattle.std.proofs.Common.{map}
 use Rattle.std.specs.declared.option.Option.{Option}
 use Rattle.std.specs.declared.option.Option.TheVariants.{None, Some}
 use Rattle.std.specs.declared.result.Result.{Result}
@@ -10,11 +11,10 @@ use Rattle.std.specs.declared.result.Result.TheVariants.{Ok, Err}
 use Rattle.coo3d.specs.declared.UnitVect3.{UnitVect3}
 use Rattle.coo3d.specs.Vectors.{is_finite_unit}
 use Rattle.refusal.specs.declared.Cause.{Cause}
-use Rattle.refusal.specs.Answer.{Answer, answered, refused_for, refuse_if, and_then, answer_of}
+use Rattle.refusal.specs.Answer.{Answer, answered, refuse_if, and_then, answer_of}
 use Rattle.refusal.proofs.Answers.{never, same_answer}
-use Rattle.region.specs.declared.Edge.{Edge}
-use Rattle.crossings.specs.Crossings.{first_answer, listed, crossings_of, tested_of, all_finite, all_of, first_of}
-use Rattle.crossings.proofs.Turns.{Turn}
+use Rattle.crossings.specs.Crossings.{first_answer, listed, tested_of, all_finite, all_of, first_of}
+use Rattle.crossings.proofs.Turns.{points_of}
 
 -- where neither is refused, the first answer is the head of the list, or none
 pub head_of_all : (ps qs rs : List UnitVect3) → first_of ps ≡ answered qs → all_of ps ≡ answered rs → qs ≡ take 1 rs
@@ -29,7 +29,7 @@ head_of_all (p ∷ ps) qs rs f a = go (is_finite_unit p) (all_finite ps) f a
 
 -- ---- the first answer, by the test of the first edge's crossing
 
-abbrev pick : Option UnitVect3 → Answer (List UnitVect3) → Answer (List UnitVect3)
+abbrev pub pick : Option UnitVect3 → Answer (List UnitVect3) → Answer (List UnitVect3)
 pick None next = next
 pick (Some p) next = answered (p ∷ [])
 
@@ -42,23 +42,14 @@ by_test (Some p) rest = go (is_finite_unit p)
     go true = refl
     go false = refl
 
-module _ {hit : Edge → Option UnitVect3} {left rest : List Edge} {t : Result (Option UnitVect3) Cause} (turn : Turn hit left rest t) where
-  ahead : first_of (crossings_of hit left) ≡ and_then (answer_of t) (λ d. pick d (first_of (crossings_of hit rest)))
-  unfolding crossings_of
-  ahead = rw (turn.next, turn.told, by_test (hit turn.edge) (crossings_of hit rest))
+abbrev pub first_by : List (Answer (Option UnitVect3)) → Answer (List UnitVect3)
+first_by [] = answered []
+first_by (a ∷ rest) = and_then a (λ d. pick d (first_by rest))
 
-  pub first_passed : t ≡ Ok None → first_of (crossings_of hit left) ≡ first_of (crossings_of hit rest)
-  first_passed e = ahead ∙ rw e
-
-  pub first_found : (p : UnitVect3) → t ≡ Ok (Some p) → first_of (crossings_of hit left) ≡ answered (p ∷ [])
-  first_found p e = ahead ∙ rw e
-
-  pub first_refused : (cause : Cause) → t ≡ Err cause → first_of (crossings_of hit left) ≡ refused_for cause
-  first_refused cause e = ahead ∙ rw e
-
-pub first_none_left : (hit : Edge → Option UnitVect3) {left : List Edge} → left ≡ [] → first_of (crossings_of hit left) ≡ answered []
-unfolding first_of crossings_of
-first_none_left hit e = rw e
+pub first_is : (cs : List (Option UnitVect3)) → first_of (points_of cs) ≡ first_by (map tested_of cs)
+unfolding first_of
+first_is [] = refl
+first_is (c ∷ cs) = by_test c (points_of cs) ∙ ap (λ (a : Answer (List UnitVect3)). and_then (tested_of c) (λ d. pick d a)) (first_is cs)
 
 -- ---- a crossing that is the only one: what its test told is the answer
 

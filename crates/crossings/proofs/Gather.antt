@@ -1,11 +1,13 @@
--- Laws of `all_of` for a loop that has the crossing of each edge tested and stores it: its start, a turn, and what it answers.
-use Prim.Native.Nat.{ℕ, suc, ◌+◌, ◌-◌, ◌≤◌, ◌<◌}
+-- Laws of `all_of` for a loop that passes what edges give, tested, and stores it: its start, a turn, and what it answers.
+use Prim.Native.Nat.{suc, ◌+◌, ◌-◌, ◌≤◌, ◌<◌}
 use native.Mathlib.Omega.{arith}
 use mathlib.Core.Path.{◌≡◌, refl, sym, ap, ◌∙◌}
 use mathlib.Core.Bool.{Bool, true, false, not, ◌&&◌}
 use mathlib.Core.List.{List, [], ◌∷◌, ◌++◌, append_assoc, append-nil}
 use lib.ListN.{length, set, replicate, length-append}
 use lib.Seq.{set-append_seam}
+use Rattle.std.proofs.Common.{map}
+use Rattle.std.proofs.lemmas.List.{length-map}
 use Rattle.std.specs.declared.option.Option.{Option}
 use Rattle.std.specs.declared.option.Option.TheVariants.{None, Some}
 use Rattle.std.specs.declared.result.Result.{Result}
@@ -15,11 +17,10 @@ use Rattle.coo3d.specs.Vectors.{is_finite_unit}
 use Rattle.refusal.specs.declared.Cause.{Cause}
 use Rattle.refusal.specs.Answer.{Answer, answered, refused, refused_for, refuse_if, and_then, answer_of}
 use Rattle.refusal.proofs.Answers.{never, then_answered, then_assoc, then_same}
-use Rattle.region.specs.declared.Edge.{Edge}
 use Rattle.crossings.specs.declared.Crossings.{Crossings}
 use Rattle.crossings.specs.declared.AllAnswer.{AllAnswer}
-use Rattle.crossings.specs.Crossings.{listed, crossings_of, tested_of, all_finite, all_of, zero3, list_of, Lists}
-use Rattle.crossings.proofs.Turns.{Turn}
+use Rattle.crossings.specs.Crossings.{listed, tested_of, all_finite, all_of, zero3, list_of, Lists}
+use Rattle.crossings.proofs.Turns.{points_of}
 
 -- the list, by the test of the first edge's crossing
 by_test : (c : Option UnitVect3) (rest : List UnitVect3) → all_of (listed c ++ rest) ≡ and_then (tested_of c) (λ d. and_then (all_of rest) (λ qs. answered (listed d ++ qs)))
@@ -39,44 +40,51 @@ stored_behind ps p h =
     let e : 64 - length ps ≡ suc (64 - (length ps + 1)) = omega arith in
     rw (e, set-append_seam ps zero3 (replicate (64 - (length ps + 1)) zero3) p, length-append, append_assoc)
 
--- after i of the edges: the points so far, before those of the edges that are left
-pub record Gathered (hit : Edge → Option UnitVect3) (es left : List Edge) (found : Crossings) (i : ℕ) : Type 0 where
+abbrev pub all_by : List (Answer (Option UnitVect3)) → Answer (List UnitVect3)
+all_by [] = answered []
+all_by (a ∷ rest) = and_then a (λ d. and_then (all_by rest) (λ qs. answered (listed d ++ qs)))
+
+all_is : (cs : List (Option UnitVect3)) → all_of (points_of cs) ≡ all_by (map tested_of cs)
+unfolding all_of all_finite
+all_is [] = refl
+all_is (c ∷ cs) = by_test c (points_of cs) ∙ ap (λ (a : Answer (List UnitVect3)). and_then (tested_of c) (λ d. and_then a (λ qs. answered (listed d ++ qs)))) (all_is cs)
+
+-- the points so far, before those of what is left of all
+pub record Gathered (all left : List (Option UnitVect3)) (found : Crossings) : Type 0 where
   pub points : List UnitVect3
-  pub few : length points ≤ i
+  pub few : length points + length left ≤ 64
   pub stored : found ≡ list_of points
-  pub same : all_of (crossings_of hit es) ≡ and_then (all_of (crossings_of hit left)) (λ qs. answered (points ++ qs))
+  pub same : all_of (points_of all) ≡ and_then (all_by (map tested_of left)) (λ qs. answered (points ++ qs))
 
-pub gathered_start : {hit : Edge → Option UnitVect3} {es left : List Edge} {found : Crossings} → found ≡ list_of [] → es ≡ left → Gathered hit es left found 0
-gathered_start {hit} {es} s e = record { points = []; few = omega arith; stored = s; same = sym (then_answered (all_of (crossings_of hit es))) ∙ rw e }
+pub gathered_start : {all : List (Option UnitVect3)} {found : Crossings} → length all ≤ 64 → found ≡ list_of [] → Gathered all all found
+gathered_start {all} few s = record { points = []; few = omega (arith, few); stored = s; same = all_is all ∙ sym (then_answered (all_by (map tested_of all))) }
 
-module _ {hit : Edge → Option UnitVect3} {es left : List Edge} {found : Crossings} {i : ℕ} (g : Gathered hit es left found i) where
-  pub gathered_len : found.len ≤ i
-  unfolding list_of
-  gathered_len = let e : found.len ≡ length g.points = ap (λ (c : Crossings). c.len) g.stored in omega (arith, g.few)
-
-  pub gathered_done : left ≡ [] → and_then (all_of (crossings_of hit es)) (λ ps. answered (list_of ps)) ≡ answered found
-  unfolding all_of all_finite crossings_of
+module _ {all left : List (Option UnitVect3)} {found : Crossings} (g : Gathered all left found) where
+  pub gathered_done : map tested_of left ≡ [] → and_then (all_of (points_of all)) (λ ps. answered (list_of ps)) ≡ answered found
   gathered_done e = rw (g.same, e, append-nil, g.stored)
 
-  module _ {rest : List Edge} {t : Result (Option UnitVect3) Cause} (turn : Turn hit left rest t) where
-    ahead : all_of (crossings_of hit left) ≡ and_then (answer_of t) (λ d. and_then (all_of (crossings_of hit rest)) (λ qs. answered (listed d ++ qs)))
-    unfolding crossings_of
-    ahead = rw (turn.next, turn.told, by_test (hit turn.edge) (crossings_of hit rest))
+  module _ (rest : List (Option UnitVect3)) (t : Result (Option UnitVect3) Cause) (e : map tested_of left ≡ answer_of t ∷ map tested_of rest) where
+    one_less : length left ≡ length rest + 1
+    one_less = sym (length-map left tested_of) ∙ ap length e ∙ rw (length-map rest tested_of) (omega arith)
 
-    pub gathered_refused : (cause : Cause) → t ≡ Err cause → all_of (crossings_of hit es) ≡ refused_for cause
-    gathered_refused cause e = rw (g.same, ahead, e)
+    pub gathered_len : found.len < 64
+    unfolding list_of
+    gathered_len = let n : found.len ≡ length g.points = ap (λ (c : Crossings). c.len) g.stored in omega (arith, g.few, one_less)
 
-    pub gathered_none : t ≡ Ok None → {found' : Crossings} → found' ≡ found → Gathered hit es rest found' (i + 1)
-    gathered_none e f = record { points = g.points; few = omega (arith, g.few); stored = f ∙ g.stored; same = rw (g.same, ahead, e, then_answered (all_of (crossings_of hit rest))) }
+    pub gathered_refused : (cause : Cause) → t ≡ Err cause → all_of (points_of all) ≡ refused_for cause
+    gathered_refused cause is = rw (g.same, e, is)
 
-    pub gathered_at : (p : UnitVect3) → t ≡ Ok (Some p) → i < 64 → {found' : Crossings} → found' ≡ record { points = set found.points found.len p; len = found.len + 1 } → Gathered hit es rest found' (i + 1)
-    gathered_at p e below f =
-        let next = all_of (crossings_of hit rest) in
+    pub gathered_none : t ≡ Ok None → {found' : Crossings} → found' ≡ found → Gathered all rest found'
+    gathered_none is f = record { points = g.points; few = omega (arith, g.few, one_less); stored = f ∙ g.stored; same = rw (g.same, e, is, then_answered (all_by (map tested_of rest))) }
+
+    pub gathered_at : (p : UnitVect3) → t ≡ Ok (Some p) → {found' : Crossings} → found' ≡ record { points = set found.points found.len p; len = found.len + 1 } → Gathered all rest found'
+    gathered_at p is f =
+        let next = all_by (map tested_of rest) in
         record {
           points = g.points ++ (p ∷ []);
-          few = omega (arith, g.few, length-append g.points (p ∷ []));
-          stored = f ∙ rw g.stored (stored_behind g.points p (omega (arith, g.few)));
-          same = g.same ∙ rw (ahead, e) (then_assoc next (λ qs. answered (p ∷ qs)) (λ qs. answered (g.points ++ qs)) ∙ then_same next (λ qs. answered (g.points ++ (p ∷ qs))) (λ qs. answered ((g.points ++ (p ∷ [])) ++ qs)) (λ qs. rw append_assoc));
+          few = omega (arith, g.few, one_less, length-append g.points (p ∷ []));
+          stored = f ∙ rw g.stored (stored_behind g.points p (omega (arith, g.few, one_less)));
+          same = g.same ∙ rw (e, is) (then_assoc next (λ qs. answered (p ∷ qs)) (λ qs. answered (g.points ++ qs)) ∙ then_same next (λ qs. answered (g.points ++ (p ∷ qs))) (λ qs. answered ((g.points ++ (p ∷ [])) ++ qs)) (λ qs. rw append_assoc));
         }
 
 -- ---- the answer

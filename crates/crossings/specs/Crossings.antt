@@ -1,13 +1,14 @@
 -- Answers of the queries: document 01, 'Queries'. An edge gives a crossing or none; a first answer is the first, an all-answer the list.
 use Rattle.refusal.specs.declared.Cause.{Cause}
-use Rattle.std.specs.Prelude.{Result, Ok, Err, ◌-◌, ◌≡◌, Bool, true, false, not, ◌&&◌, List, [], ◌∷◌, ◌++◌, length, replicate, Option, Some, None}
+use Rattle.std.specs.Prelude.{ℕ, Result, Ok, Err, ◌-◌, ◌≡◌, Bool, true, false, not, ◌&&◌, List, [], ◌∷◌, ◌++◌, length, take, drop, map, get_or, replicate, Option, Some, None}
 use Rattle.coo3d.specs.declared.UnitVect3.{UnitVect3}
 use Rattle.coo3d.specs.Vectors.{is_finite_unit}
 use Rattle.float.specs.Doubles.{nought}
 use Rattle.refusal.specs.Answer.{Answer, answered, refused, refused_for, answer_of, outcome_of, refuse_if, and_then}
 use Rattle.domain.specs.Checks.{with_count}
 use Rattle.region.specs.declared.Edge.{Edge}
-use Rattle.region.specs.View.{View, edges_of}
+use Rattle.region.specs.declared.Region.{Region}
+use Rattle.region.specs.View.{View, nowhere, edges_from, edges_of}
 use Rattle.crossings.specs.declared.Crossings.{Crossings}
 use Rattle.crossings.specs.declared.AllAnswer.{AllAnswer}
 
@@ -60,6 +61,14 @@ first_crossing_of hit v curve = with_count v.count (and_then (answer_of curve) (
 
 abbrev pub all_crossings_of : {C : Type 0} → (C → Edge → Option UnitVect3) → View → Result C Cause → Answer (List UnitVect3)
 all_crossings_of hit v curve = with_count v.count (and_then (answer_of curve) (λ c. all_of (crossings_of (hit c) (edges_of v))))
+
+-- what the edges give, a crossing or none each, which isn't tested yet
+abbrev pub given_of : {C : Type 0} → (C → Edge → Option UnitVect3) → View → Result C Cause → Answer (List (Option UnitVect3))
+given_of hit v curve = with_count v.count (and_then (answer_of curve) (λ c. answered (map (hit c) (edges_of v))))
+
+-- the same of the edges from index i on, where the corner before is at `before`
+unfoldable pub given_from : (Edge → Option UnitVect3) → Region → ℕ → ℕ → List (Option UnitVect3)
+given_from hit r before i = map hit (edges_from (get_or r.vertices before nowhere) (drop i (take r.count r.vertices)) (drop i (take r.count r.cross_products)))
 
 -- ---- a list by value
 

@@ -2,16 +2,18 @@
 // `intersect_` methods in src/sph_geom/mod.rs.
 #![tactic(auto)]
 
-ghost use Rattle.std.specs.Prelude.{◌≡◌, Option, [], ◌<◌, ◌+◌, slice_set};
+ghost use Rattle.std.specs.Prelude.{◌≡◌, Option, List, [], map, ◌<◌, ◌≤◌, ◌+◌, slice_set};
+ghost use Rattle.std.specs.Iterator.{YieldsFirstBy, item_count};
 ghost use Rattle.coo3d.specs.declared.UnitVect3.{UnitVect3};
 ghost use Rattle.refusal.specs.Answer.{answered, refused_for, answer_of, outcome_of, and_then};
 ghost use Rattle.region.specs.declared.Edge.{Edge};
 ghost use Rattle.region.specs.View.{view_of};
-ghost use Rattle.crossings.specs.Crossings.{zeros, list_of, tested_of, first_answer, intersecting_of, all_crossings_of, first_crossing_of, Lists};
+ghost use Rattle.crossings.specs.Crossings.{zeros, list_of, tested_of, first_answer, intersecting_of, given_from, given_of, all_crossings_of, first_crossing_of, Lists};
 
 use coo3d::{Coo3D, UnitVect3, Vect3};
 use refusal::Cause;
 use region::Region;
+use std::marker::Model;
 
 // The first `len` points, in the order of their edges; the others are zero.
 #[derive(Clone, Copy)]
@@ -97,28 +99,82 @@ pub fn is_intersecting(first: Result<Option<UnitVect3>, Cause>) -> Result<bool, 
     Ok(first?.is_some())
 }
 
-// The first edge with a crossing decides. The count is tested, then the curve.
-// A loop beside `collect`'s, which stores the points. Stopped at the first point, that one would still have the list made: at one corner an arc's
-// list takes a fifth more instructions than its first point. One loop that hands each point to a closure takes no more than the two, but its
-// contract would have to say what becomes of all that the closure changes.
+// What a region's edges that are left give for a curve, a crossing or none each, in order: the next edge runs from corner `before` to corner `i`.
+#[derive(Drop)]
+struct Passing<'a, C: Curve + Drop> {
+    r: &'a Region,
+    curve: C,
+    before: usize,
+    i: usize,
+}
+
+impl<'a, C: Curve + Drop> Model for Passing<'a, C> {
+    ghost Value = { List (Option UnitVect3) };
+
+    ghost view = { λ s. given_from (C.crossing_of s.curve) s.r.now s.before s.i };
+
+    ghost invariant = { λ s. (s.before < 64) × (s.r.now.count ≤ 64) };
+}
+
+impl<'a, C: Curve + Drop> Passing<'a, C> {
+    // The count is tested, then the curve.
+    #[inline(always)]
+    fn new(r: &'a Region, curve: Result<C, Cause>) -> Result<Passing<'a, C>, Cause>
+        ensures { answer_of result ≡ given_of C.crossing_of (view_of r.now) curve }
+    {
+        let count = r.count;
+        domain::check_count(count)?;
+        let curve = curve?;
+        let before = count - 1;
+        // A read that tells the proof how long the array is, and that costs nothing.
+        let _last = &r.vertices[before];
+        Ok(Passing {
+            r,
+            curve,
+            before,
+            i: 0,
+        })
+    }
+}
+
+// Each crossing is tested.
+impl<'a, C: Curve + Drop> Iterator for Passing<'a, C> {
+    type Item = Result<Option<UnitVect3>, Cause>;
+
+    ghost next_gives = { YieldsFirstBy answer_of (map tested_of) };
+
+    ghost remaining = { item_count (λ cs. cs) };
+
+    #[inline(always)]
+    fn next(&mut self) -> Option<Result<Option<UnitVect3>, Cause>> {
+        let r = self.r;
+        let i = self.i;
+        if i < r.count {
+            let crossing = self.curve.crossing(
+                &r.vertices[self.before],
+                &r.vertices[i],
+                &r.cross_products[i],
+            );
+            self.before = i;
+            self.i = i + 1;
+            Some(test_finite(crossing))
+        } else {
+            None
+        }
+    }
+}
+
+// The first edge with a crossing decides.
 pub fn first_crossing<C: Curve + Drop>(
     r: &Region,
     curve: Result<C, Cause>,
 ) -> Result<Option<UnitVect3>, Cause>
     ensures { first_answer result ≡ first_crossing_of C.crossing_of (view_of r.now) curve }
 {
-    let count = r.count;
-    domain::check_count(count)?;
-    let curve = curve?;
-    let mut before = count - 1;
-    // A read that tells the proof how long the array is, and that costs nothing. A reference kept in place of the index costs more.
-    let _last = &r.vertices[before];
-    for i in 0..count {
-        let crossing = curve.crossing(&r.vertices[before], &r.vertices[i], &r.cross_products[i]);
-        if let Some(point) = test_finite(crossing)? {
+    for crossing in Passing::new(r, curve)? {
+        if let Some(point) = crossing? {
             return Ok(Some(point));
         }
-        before = i;
     }
     Ok(None)
 }
@@ -131,18 +187,10 @@ fn collect<C: Curve + Drop>(
     requires { found.old ≡ list_of [] }
     ensures { outcome_of result found.new ≡ and_then (all_crossings_of C.crossing_of (view_of r.now) curve) (λ ps. answered (list_of ps)) }
 {
-    let count = r.count;
-    domain::check_count(count)?;
-    let curve = curve?;
-    let mut before = count - 1;
-    // A read that tells the proof how long the array is, and that costs nothing. A reference kept in place of the index costs more.
-    let _last = &r.vertices[before];
-    for i in 0..count {
-        let crossing = curve.crossing(&r.vertices[before], &r.vertices[i], &r.cross_products[i]);
-        if let Some(point) = test_finite(crossing)? {
+    for crossing in Passing::new(r, curve)? {
+        if let Some(point) = crossing? {
             found.push(point);
         }
-        before = i;
     }
     Ok(())
 }

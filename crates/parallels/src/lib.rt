@@ -179,6 +179,8 @@ impl Parallel {
 impl Curve for Parallel {
     ghost crossing_of = { λ p e. parallel_crossing p.lat p.sin p.cos e };
 
+    // Inlined into the loops: else a list at 64 corners takes a twelfth more instructions.
+    #[inline(always)]
     #[tactic(auto, unfolding(crate::specs::Parallels::parallel_crossing))]
     fn crossing(&self, from: &Coo3D, to: &Coo3D, normal: &Vect3) -> Option<UnitVect3> {
         if spans_lat(from, to, self.lat) {
