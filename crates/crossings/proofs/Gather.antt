@@ -74,9 +74,6 @@ module _ {all left : List (Option UnitVect3)} {found : Crossings} (g : Gathered 
     pub gathered_refused : (cause : Cause) → t ≡ Err cause → all_of (points_of all) ≡ refused_for cause
     gathered_refused cause is = rw (g.same, e, is)
 
-    pub gathered_none : t ≡ Ok None → {found' : Crossings} → found' ≡ found → Gathered all rest found'
-    gathered_none is f = record { points = g.points; few = omega (arith, g.few, one_less); stored = f ∙ g.stored; same = rw (g.same, e, is, then_answered (all_by (map tested_of rest))) }
-
     pub gathered_at : (p : UnitVect3) → t ≡ Ok (Some p) → {found' : Crossings} → found' ≡ record { points = set found.points found.len p; len = found.len + 1 } → Gathered all rest found'
     gathered_at p is f =
         let next = all_by (map tested_of rest) in

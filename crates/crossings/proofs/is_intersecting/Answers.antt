@@ -1,4 +1,4 @@
--- `crossings::is_intersecting` meets its contract. Assumes nothing.
+-- `crossings::is_intersecting` meets its contract. Assumes nothing. The check finds it; without it a wrong edit is refused only where its search ends.
 use mathlib.Core.Path.{◌≡◌, refl, sym, ap, ◌∙◌}
 use Rattle.std.specs.Option.{is_some}
 use Rattle.std.specs.declared.option.Option.{Option}

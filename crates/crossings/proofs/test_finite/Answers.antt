@@ -1,4 +1,4 @@
--- `crossings::test_finite` meets its contract. Assumes nothing.
+-- `crossings::test_finite` meets its contract. Assumes nothing. The check finds it; without it a wrong edit is refused only where its search ends.
 use mathlib.Core.Path.{◌≡◌, sym, ◌∙◌}
 use mathlib.Core.Bool.{Bool, true, false}
 use mathlib.Core.List.{[]}

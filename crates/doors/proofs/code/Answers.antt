@@ -1,4 +1,4 @@
--- `doors::code` meets its contract. Assumes nothing.
+-- `doors::code` meets its contract. Assumes nothing. The check finds it; without it a wrong edit is refused only where its search ends.
 use Prim.Native.Nat.{ℕ, ◌+◌}
 use mathlib.Core.Path.{sym, ap, ◌∙◌}
 use Rattle.std.specs.Prelude.{Result}

@@ -1,4 +1,4 @@
--- `great_circles::are_overlapping_in_lon` meets its contract. Assumes nothing.
+-- `great_circles::are_overlapping_in_lon` meets its contract. Assumes nothing. The check finds it; without it a wrong edit is refused only where its search ends.
 use Rattle.great_circles.specs.Arcs.{overlap_in_lon}
 use Rattle.great_circles.proofs.are_overlapping_in_lon.Goals as goal
 

@@ -1,4 +1,4 @@
--- `great_circles::intersect_great_circle_arc` meets its contract. Assumes nothing.
+-- `great_circles::intersect_great_circle_arc` meets its contract. Assumes nothing. The check finds it; without it a wrong edit is refused only where its search ends.
 use mathlib.Core.Path.{◌∙◌}
 use Rattle.crossings.specs.Crossings.{first_of, crossings_of}
 use Rattle.region.specs.View.{view_of, edges_of}

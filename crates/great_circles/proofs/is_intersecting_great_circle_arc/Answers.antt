@@ -1,4 +1,4 @@
--- `great_circles::is_intersecting_great_circle_arc` meets its contract. Assumes nothing.
+-- `great_circles::is_intersecting_great_circle_arc` meets its contract. Assumes nothing. The check finds it; without it a wrong edit is refused only where its search ends.
 use mathlib.Core.Path.{ap, ◌∙◌}
 use Rattle.crossings.specs.Crossings.{intersecting_of}
 use Rattle.great_circles.proofs.is_intersecting_great_circle_arc.Goals as goal

@@ -1,4 +1,4 @@
--- `region::refused` meets its contract. Assumes nothing.
+-- `region::refused` meets its contract. Assumes nothing. The check finds it; without it a wrong edit is refused only where its search ends.
 use mathlib.Core.Path.{refl}
 use Rattle.region.proofs.refused.Goals as goal
 

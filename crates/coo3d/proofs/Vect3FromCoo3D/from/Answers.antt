@@ -1,4 +1,4 @@
--- `coo3d::Vect3::from, of a Coo3D,` meets its contract. Assumes nothing.
+-- `coo3d::Vect3::from, of a Coo3D,` meets its contract. Assumes nothing. The check finds it; without it a wrong edit is refused only where its search ends.
 use mathlib.Core.Path.{refl}
 use Rattle.coo3d.proofs.Vect3FromCoo3D.from.Goals as goal
 

@@ -1,4 +1,4 @@
--- `great_circles::GreatCircle::new` meets its contract. Assumes nothing.
+-- `great_circles::GreatCircle::new` meets its contract. Assumes nothing. The check finds it; without it a wrong edit is refused only where its search ends.
 use mathlib.Core.Path.{sym}
 use borrow.Author.Rules.{rules}
 use Rattle.great_circles.proofs.GreatCircle.new.Goals as goal

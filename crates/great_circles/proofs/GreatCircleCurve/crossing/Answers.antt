@@ -1,4 +1,4 @@
--- `great_circles::GreatCircleCurve::crossing` meets its contract. Assumes nothing.
+-- `great_circles::GreatCircleCurve::crossing` meets its contract. Assumes nothing. The check finds it; without it a wrong edit is refused only where its search ends.
 use mathlib.Core.Path.{sym}
 use Rattle.great_circles.specs.Circles.{circle_crossing}
 use Rattle.great_circles.proofs.GreatCircleCurve.crossing.Goals as goal

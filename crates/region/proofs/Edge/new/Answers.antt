@@ -1,4 +1,4 @@
--- `region::Edge::new` meets its contract. Assumes nothing.
+-- `region::Edge::new` meets its contract. Assumes nothing. The check finds it; without it a wrong edit is refused only where its search ends.
 use mathlib.Core.Path.{refl}
 use Rattle.region.proofs.Edge.new.Goals as goal
 
