@@ -23,7 +23,8 @@ pub struct EditAnswer {
     pub outcome: Result<(), Cause>,
 }
 
-// The index before i, of n. Each of these is asked once in a call, so that a struct of the two numbers would be made for one question.
+// The index before i, of n. There is no struct of the two numbers: `set_normal` asks this alone of its two, an edit one of the next two functions of
+// its own, and each would make the struct for that one question.
 fn index_before(n: usize, i: usize) -> usize
     requires { (0 < n) × (i ≤ n) }
     ensures { (result ≡ prev_of n i) × (result < n) }
@@ -91,7 +92,7 @@ fn set_normal(region: &mut Region, i: usize)
 
 // How many edges of these corners cross the seam.
 fn seams_of(corners: &[Coo3D]) -> usize
-    requires { (0 < length corners.now) × (length corners.now ≤ 64) }
+    requires { 0 < length corners.now }
     ensures { result ≡ seams_of corners.now }
 {
     let mut start = corners[corners.len() - 1];
@@ -105,82 +106,75 @@ fn seams_of(corners: &[Coo3D]) -> usize
 }
 
 // The two normals that touch the corner are worked out, which at count 1 is one, twice; the seam count is taken anew, since a value may be handed
-// in with any. Both answers are made of one copy, so that there is no other.
+// in with any.
+fn put_in(region: &mut Region, i: usize, corner: Coo3D) -> Result<(), Cause>
+    ensures { Edited (edit.put i corner) region.old (record { region = region.new; outcome = result }) }
+{
+    let count = region.count;
+    let p = corner_for(count, 64, i < count, corner)?;
+    region.vertices[i] = p;
+    set_normal(region, i);
+    set_normal(region, next_index(count, i));
+    region.seam_count = seams_of(&region.vertices[..count]);
+    Ok(())
+}
+
+// The one copy is made here; a refusal leaves it as it is. The same in insert and remove.
 pub fn put(r: Region, i: usize, corner: Coo3D) -> EditAnswer
     ensures { Edited (edit.put i corner) r result }
 {
     let mut region = r;
-    let count = r.count;
-    match corner_for(count, 64, i < count, corner) {
-        Err(cause) => EditAnswer {
-            region,
-            outcome: Err(cause),
-        },
-        Ok(p) => {
-            region.vertices[i] = p;
-            set_normal(&mut region, i);
-            set_normal(&mut region, next_index(count, i));
-            region.seam_count = seams_of(&region.vertices[..count]);
-            EditAnswer {
-                region,
-                outcome: Ok(()),
-            }
-        }
-    }
+    let outcome = put_in(&mut region, i, corner);
+    EditAnswer { region, outcome }
 }
 
-// Before corner i; i equal to the count appends. The new corner's two normals are worked out, the others move with their corners.
+// The new corner's two normals are worked out, the others move with their corners.
+fn insert_in(region: &mut Region, i: usize, corner: Coo3D) -> Result<(), Cause>
+    ensures { Edited (edit.insert i corner) region.old (record { region = region.new; outcome = result }) }
+{
+    let count = region.count;
+    let p = corner_for(count, 63, i <= count, corner)?;
+    let more = count + 1;
+    region.count = more;
+    region.vertices.copy_within(i..count, i + 1);
+    region.vertices[i] = p;
+    region.cross_products.copy_within(i..count, i + 1);
+    set_normal(region, i);
+    set_normal(region, next_index(more, i));
+    region.seam_count = seams_of(&region.vertices[..more]);
+    Ok(())
+}
+
+// Before corner i; i equal to the count appends.
 pub fn insert(r: Region, i: usize, corner: Coo3D) -> EditAnswer
     ensures { Edited (edit.insert i corner) r result }
 {
     let mut region = r;
-    let count = r.count;
-    match corner_for(count, 63, i <= count, corner) {
-        Err(cause) => EditAnswer {
-            region,
-            outcome: Err(cause),
-        },
-        Ok(p) => {
-            let more = count + 1;
-            region.count = more;
-            region.vertices.copy_within(i..count, i + 1);
-            region.vertices[i] = p;
-            region.cross_products.copy_within(i..count, i + 1);
-            set_normal(&mut region, i);
-            set_normal(&mut region, next_index(more, i));
-            region.seam_count = seams_of(&region.vertices[..more]);
-            EditAnswer {
-                region,
-                outcome: Ok(()),
-            }
-        }
-    }
+    let outcome = insert_in(&mut region, i, corner);
+    EditAnswer { region, outcome }
 }
 
 // The normal of the edge that closes the gap is worked out, the others move with their corners, and the seam count is taken anew.
+fn remove_in(region: &mut Region, i: usize) -> Result<(), Cause>
+    ensures { Edited (edit.remove i) region.old (record { region = region.new; outcome = result }) }
+{
+    let count = region.count;
+    removable(count, i)?;
+    let fewer = count - 1;
+    region.count = fewer;
+    region.vertices.copy_within(i + 1..count, i);
+    region.cross_products.copy_within(i + 1..count, i);
+    set_normal(region, index_left(count, i));
+    region.seam_count = seams_of(&region.vertices[..fewer]);
+    Ok(())
+}
+
 pub fn remove(r: Region, i: usize) -> EditAnswer
     ensures { Edited (edit.remove i) r result }
 {
     let mut region = r;
-    let count = r.count;
-    match removable(count, i) {
-        Err(cause) => EditAnswer {
-            region,
-            outcome: Err(cause),
-        },
-        Ok(()) => {
-            let fewer = count - 1;
-            region.count = fewer;
-            region.vertices.copy_within(i + 1..count, i);
-            region.cross_products.copy_within(i + 1..count, i);
-            set_normal(&mut region, index_left(count, i));
-            region.seam_count = seams_of(&region.vertices[..fewer]);
-            EditAnswer {
-                region,
-                outcome: Ok(()),
-            }
-        }
-    }
+    let outcome = remove_in(&mut region, i);
+    EditAnswer { region, outcome }
 }
 
 // The region with the flag, where there is one. Its one copy is made where both cases have met.
