@@ -7,7 +7,6 @@ use lib.ListN.{length, get_or}
 use Rattle.region.specs.View.{view_of, nowhere, edges_of}
 use Rattle.region.proofs.Containing.{room}
 use Rattle.region.proofs.Edges.{edges_left, start, done}
-use Rattle.region.proofs.Lengths.{unmap}
 use Rattle.crossings.specs.Crossings.{all_of, crossings_of, all_crossings_of}
 use Rattle.crossings.proofs.Turns.{Turn, taken, turned}
 use Rattle.crossings.proofs.Gather.{gathered_start, gathered_len, gathered_none, gathered_at, gathered_refused, gathered_done}
@@ -18,7 +17,7 @@ use Rattle.crossings.proofs.collect.Goals.{After-test_finite, At-loop-i, in-Some
 pub loop-i-init : goal.loop-i-init
 loop-i-init g c =
     let few = c.in_ok-check_count.ensures.few in
-    let v : length c.args.r.now.vertices ≡ 64 = search unmap in
+    let v : length c.args.r.now.vertices ≡ 64 = search rules in
     (omega (arith, few.0), gathered_start c.requires (start c.args.r.now few.0 (room _ _ v few.1)))
 
 pub bounds-r-before-in-loop-i : goal.bounds-r-before-in-loop-i
@@ -31,8 +30,8 @@ push-requires g c = omega (arith, gathered_len c.loop-i.invariant.1, c.loop-i-te
 here : (g : Over) (c : After-test_finite g) → Turn (g.C.Curve.crossing_of c.in_ok-curve.curve) (edges_left c.args.r.now (get_or c.args.r.now.vertices c.loop-i.before nowhere) c.loop-i.i) (edges_left c.args.r.now (get_or c.args.r.now.vertices c.loop-i.i nowhere) (c.loop-i.i + 1)) c.test_finite.result
 here g c =
     let r = c.args.r.now in
-    let v : length r.vertices ≡ 64 = search unmap in
-    let n : length r.cross_products ≡ 64 = search unmap in
+    let v : length r.vertices ≡ 64 = search rules in
+    let n : length r.cross_products ≡ 64 = search rules in
     turned r (get_or c.args.r.now.vertices c.loop-i.before nowhere) c.loop-i.i v n c.in_ok-check_count.ensures.few.1 c.loop-i-test.true c.crossing-crossing.ensures c.test_finite.ensures
 
 -- the answer, once the count and the curve are taken
@@ -56,5 +55,5 @@ loop-i-preserved g c =
 pub returns : goal.returns
 returns g c =
     let r = c.args.r.now in
-    let v : length r.vertices ≡ 64 = search unmap in
+    let v : length r.vertices ≡ 64 = search rules in
     sym (rw (whole g (goal.at.returns g c).At-loop-i) (gathered_done c.loop-i.invariant.1 (done r (get_or c.args.r.now.vertices c.loop-i.before nowhere) c.loop-i.i (room _ _ v c.in_ok-check_count.ensures.few.1) c.loop-i-test.false)))
