@@ -3,7 +3,7 @@ use Prim.Native.Nat.{ℕ}
 use mathlib.Core.Path.{◌≡◌, refl, sym, ap, ◌∙◌}
 use mathlib.Core.Bool.{Bool, true}
 use mir.Val.{bool_byte}
-use Rattle.region_file.proofs.Numbers.{flag_number}
+use Rattle.region.proofs.Seam.{as_number}
 use mathlib.Core.List.{List}
 use Rattle.std.specs.Prelude.{⊤, Result, Ok, Err}
 use Rattle.std.specs.Result.{MatchResult, IsOkAnd, IsErrAnd, result_and}
@@ -21,7 +21,7 @@ use Rattle.doors.specs.Doors.{code_of, in_or_out, held_of, held_file}
 
 -- the code of a decision that was made a number
 pub mapped : (r : Result Bool Cause) (m : Result ℕ Cause) → MatchResult r (λ x. IsOkAnd m (λ n. n ≡ bool_byte x)) (λ e. m ≡ Err e) → code_of (λ n. n) (answer_of m) ≡ code_of in_or_out (answer_of r)
-mapped (Ok x) (Ok n) h = h ∙ flag_number x
+mapped (Ok x) (Ok n) h = h ∙ as_number x
 mapped (Ok x) (Err e) h = absurd h
 mapped (Err e) m h = ap (λ (x : Result ℕ Cause). code_of (λ n. n) (answer_of x)) h
 

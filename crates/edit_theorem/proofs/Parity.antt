@@ -11,17 +11,15 @@ use borrow.Author.Tests.{eq-eqb, ne_eqb}
 use lib.Dec.{eqb}
 use lib.ListN.{length, get_or, set, length-set}
 use lib.Seq.{get_or-set_other}
+use Rattle.std.proofs.lemmas.Bool.{cases_eq}
 use Rattle.lists.specs.Counts.{exactly_one, odd_many}
 use Rattle.lists.specs.Cyclic.{last_of, ins, del, along, next_of, there_of, before_of, put_along, ins_along, del_along}
-use Rattle.lists.proofs.Cyclic.{same_or_not, length_from, length_ins, length_del, put_one, ins_one, del_one}
+use Rattle.lists.proofs.Cyclic.{length_from, length_ins, length_del, put_one, ins_one, del_one}
 use Rattle.edits.proofs.Neighbours.{next_below, there_below, ins_front, del_front}
-use Rattle.lists.proofs.Odd.{odd, xor, by_way, one_left, one_false}
+use Rattle.lists.proofs.Odd.{odd, xor, by_way, on_one_side, one_left, one_false}
 
 cancel : (b x o : Bool) → exactly_one (exactly_one b o) (exactly_one x o) ≡ exactly_one x b
 cancel b x o = simp xor
-
-pub cancel' : (x a o : Bool) → exactly_one (exactly_one x a) (exactly_one x o) ≡ exactly_one a o
-cancel' x a o = simp xor
 
 four : (a b c e : Bool) → exactly_one (exactly_one b e) (exactly_one a c) ≡ odd (a ∷ b ∷ c ∷ e ∷ [])
 unfolding odd_many
@@ -32,7 +30,7 @@ pub odd_set : (l : List Bool) (i : ℕ) (b : Bool) → i < length l → exactly_
 unfolding odd_many
 odd_set [] i b h = absurd (not-suc-le-zero h)
 odd_set (x ∷ l) zero b h = cancel b x (odd l)
-odd_set (x ∷ l) (suc i) b h = cancel' x (odd (set l i b)) (odd l) ∙ odd_set l i b (le_of_suc-le-suc h)
+odd_set (x ∷ l) (suc i) b h = on_one_side x (odd (set l i b)) (odd l) ∙ odd_set l i b (le_of_suc-le-suc h)
 
 -- two marks, at different places
 odd_two : (l : List Bool) (i j : ℕ) (a b : Bool) → i < length l → j < length l → (j ≡ i → ⊥)
@@ -48,7 +46,7 @@ next_other n i h two q =
     ⊎_elim
     (λ (e : i + 1 ≡ n). let a : eqb (i + 1) n ≡ true = eq-eqb _ _ e in let z : 0 ≡ i = rw a at q in omega arith)
     (λ (e : i + 1 ≡ n → ⊥). let a : eqb (i + 1) n ≡ false = ne_eqb _ _ e in let z : i + 1 ≡ i = rw a at q in omega arith)
-    (same_or_not (i + 1) n)
+    (cases_eq (i + 1) n)
 
 module _ {C : Type 0} (d : C) where
   pub last_at : (cs : List C) (f : C) (i : ℕ) → suc i ≡ length cs → last_of f cs ≡ get_or cs i d
@@ -66,7 +64,7 @@ module _ {C : Type 0} (d : C) where
       ⊎_elim
       (λ (e : i + 1 ≡ length cs). let a : eqb (i + 1) (length cs) ≡ true = eq-eqb _ _ e in rw a (last_at cs d i (omega arith)))
       (λ (e : i + 1 ≡ length cs → ⊥). let a : eqb (i + 1) (length cs) ≡ false = ne_eqb _ _ e in rw (a, add-one))
-      (same_or_not (i + 1) (length cs))
+      (cases_eq (i + 1) (length cs))
 
   module _ (hit : C → C → Bool) where
     pub from_at : (f : C) (cs : List C) (k : ℕ) → k < length cs → get_or (along hit f cs) k false ≡ hit (get_or (f ∷ cs) k d) (get_or cs k d)
@@ -147,7 +145,7 @@ module _ {A : Type 0} (d : A) where
       let t : eqb (i + 1) (n + 1) ≡ false = ne_eqb _ _ o in
       let u : eqb i n ≡ false = ne_eqb _ _ e in
       rw (t, u, add-one i) (ins_after l i a (omega arith)))
-      (same_or_not i n)
+      (cases_eq i n)
 
   del_after : (l : List A) (i : ℕ) → get_or (del i l) i d ≡ get_or l (suc i) d
   unfolding del
@@ -162,14 +160,14 @@ module _ {A : Type 0} (d : A) where
       ⊎_elim
       (λ (e : i + 1 ≡ n). let t : eqb (i + 1) n ≡ true = eq-eqb _ _ e in rw t (del_front d l i 0 (omega arith)))
       (λ (e : i + 1 ≡ n → ⊥). let t : eqb (i + 1) n ≡ false = ne_eqb _ _ e in rw (t, add-one i) (del_after l i))
-      (same_or_not (i + 1) n)
+      (cases_eq (i + 1) n)
 
 split_below : (n i : ℕ) → i ≤ n → 0 < n → split_of n i < n
 split_below n i h pos =
     ⊎_elim
     (λ (e : i ≡ n). let t : eqb i n ≡ true = eq-eqb _ _ e in rw t pos)
     (λ (e : i ≡ n → ⊥). let t : eqb i n ≡ false = ne_eqb _ _ e in rw t (omega arith))
-    (same_or_not i n)
+    (cases_eq i n)
 
 next_fits : (n i : ℕ) → i ≤ n → next_of (n + 1) i < suc n
 next_fits n i h = let b : next_of (n + 1) i < n + 1 = next_below (n + 1) i (omega arith) in omega arith

@@ -10,18 +10,18 @@ use borrow.Author.Tests.{ne_eqb}
 use lib.Dec.{eqb}
 use lib.ListN.{length, get_or, set, length-set}
 use lib.Seq.{get_or-set_same, get_or-set_other}
+use Rattle.std.proofs.lemmas.Bool.{cases_eq}
 use Rattle.coo3d.specs.declared.Coo3D.{Coo3D}
 use Rattle.lists.specs.Counts.{exactly_one, odd_many}
 use Rattle.lists.specs.Cyclic.{last_of, ins, del, next_of, before_of}
-use Rattle.lists.proofs.Cyclic.{same_or_not}
-use Rattle.lists.proofs.Odd.{odd}
+use Rattle.lists.proofs.Odd.{odd, on_one_side}
 use Rattle.region.specs.Edges.{edge, is_counted}
 use Rattle.region.specs.View.{nowhere, odd_at, contained, made}
 use Rattle.region.proofs.Drawn.{odd_drawn}
 use Rattle.edits.specs.Edits.{Edit, put, insert, remove}
 use Rattle.edit_theorem.specs.Record.{Plain, region_of, edited, moves_corner, touching, taken_out, brought_in}
 use Rattle.edit_theorem.proofs.Legal.{Legal, legal_put, legal_insert, legal_remove, legal_turn, legal_hold, legal_rule}
-use Rattle.edit_theorem.proofs.Parity.{marks, cancel', last_at, next_other, parity_put, parity_alone, parity_ins, parity_del}
+use Rattle.edit_theorem.proofs.Parity.{marks, last_at, next_other, parity_put, parity_alone, parity_ins, parity_del}
 
 -- the corner before i stays where i is put, unless it is i itself
 before_put : {C : Type 0} (d : C) (cs : List C) (i : ℕ) (p : C) → 1 < length cs → before_of d (set cs i p) i ≡ before_of d cs i
@@ -45,7 +45,7 @@ module _ (x : Coo3D) where
 
   contained_turns : (cs now : List Coo3D) (f : Bool) → exactly_one (contained x (made now f)) (contained x (made cs f)) ≡ exactly_one (odd_in now) (odd_in cs)
   unfolding contained
-  contained_turns cs now f = rw (odd_made cs f, odd_made now f) (cancel' f (odd_in now) (odd_in cs))
+  contained_turns cs now f = rw (odd_made cs f, odd_made now f) (on_one_side f (odd_in now) (odd_in cs))
 
   put_alone : (cs : List Coo3D) (i : ℕ) (p : Coo3D) → i < length cs → length cs ≡ 1
       → exactly_one (odd_in (set cs i p)) (odd_in cs) ≡ odd_many (is_counted x) (touching cs i ++ touching (set cs i p) i)
@@ -67,7 +67,7 @@ module _ (x : Coo3D) where
 
     put_turns : (p : Coo3D) → i < length cs → exactly_one (odd_in (set cs i p)) (odd_in cs) ≡ odd_many (is_counted x) (taken_out (put i p) cs ++ brought_in (put i p) cs)
     unfolding taken_out brought_in
-    put_turns p h = ⊎_elim (put_alone cs i p h) (put_several p h) (same_or_not (length cs) 1)
+    put_turns p h = ⊎_elim (put_alone cs i p h) (put_several p h) (cases_eq (length cs) 1)
 
     ins_turns : (p : Coo3D) → i ≤ length cs → 0 < length cs → exactly_one (odd_in (ins i p cs)) (odd_in cs) ≡ odd_many (is_counted x) (taken_out (insert i p) cs ++ brought_in (insert i p) cs)
     unfolding taken_out brought_in odd_many

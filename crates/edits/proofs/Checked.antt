@@ -14,7 +14,7 @@ use Rattle.std.specs.Result.{MatchResult, IsOkAnd, result_and}
 use Rattle.coo3d.specs.declared.Coo3D.{Coo3D}
 use Rattle.domain.specs.Checks.{point_at, with_count}
 use Rattle.domain.proofs.Counts.{count_in, count_answered, count_refused}
-use Rattle.lists.proofs.Cyclic.{same_or_not}
+use Rattle.std.proofs.lemmas.Bool.{cases_eq as same_or_not}
 use Rattle.refusal.specs.Answer.{Answer, answered, refused, refused_for, refuse_if, and_then, answer_of}
 use Rattle.refusal.specs.declared.Cause.{Cause}
 use Rattle.refusal.proofs.Answers.{not_refused, then_assoc}

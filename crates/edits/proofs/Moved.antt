@@ -10,7 +10,8 @@ use lib.Seq.{get_or-take, length-take-le, take-set-lt, get_or-set_same, set-set}
 use Rattle.coo3d.specs.declared.Coo3D.{Coo3D}
 use Rattle.coo3d.specs.declared.Vect3.{Vect3}
 use Rattle.lists.specs.Cyclic.{ins, del, prev_of, next_of, there_of, before_of, put_along, ins_along, del_along}
-use Rattle.lists.proofs.Cyclic.{same_or_not, length_ins, length_del}
+use Rattle.std.proofs.lemmas.Bool.{cases_eq as same_or_not}
+use Rattle.lists.proofs.Cyclic.{length_ins, length_del}
 use Rattle.region.specs.Edges.{normal_of}
 use Rattle.region.specs.View.{View, with_corners, seams_of, nowhere}
 use Rattle.edits.specs.Edits.{put, insert, remove, changed}

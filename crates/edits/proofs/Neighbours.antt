@@ -12,7 +12,7 @@ use lib.Seq.{take-length, take-take, take-set-lt, length-take-le, paste}
 use Rattle.std.proofs.lemmas.List.{get_or-set_other, set-append_left, drop-take, length-drop}
 use Rattle.std.proofs.lemmas.List.Edits.{take-paste}
 use Rattle.lists.specs.Cyclic.{last_of, ins, del, prev_of, next_of, there_of, before_of}
-use Rattle.lists.proofs.Cyclic.{same_or_not}
+use Rattle.std.proofs.lemmas.Bool.{cases_eq as same_or_not}
 use Rattle.lists.proofs.Shifts.{ins_is, del_is}
 use Rattle.lists.proofs.Passing.{stored}
 use Rattle.region.proofs.Edges.{last_take}

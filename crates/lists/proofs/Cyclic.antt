@@ -4,21 +4,15 @@ use native.Mathlib.Nat.{le_of_suc-le-suc, not-suc-le-zero}
 use native.Mathlib.Numerals.{add-one}
 use native.Mathlib.Omega.{arith}
 use mathlib.Core.Path.{◌≡◌, refl, sym, ap, ◌∙◌}
-use mathlib.Core.Logic.{◌⊎◌, inl, inr, ⊎_elim}
-use mathlib.Core.Bool.{Bool, true, false, cond}
+use mathlib.Core.Logic.{⊎_elim}
+use mathlib.Core.Bool.{true, false, cond}
 use mathlib.Core.List.{List, [], ◌∷◌}
-use borrow.Author.Tests.{eqb-true, eqb-false, eq-eqb, ne_eqb}
+use borrow.Author.Tests.{eq-eqb, ne_eqb}
 use lib.Dec.{eqb}
 use lib.ListN.{length, get_or, set, length-set}
 use lib.Seq.{set_out}
+use Rattle.std.proofs.lemmas.Bool.{cases_eq}
 use Rattle.lists.specs.Cyclic.{last_of, ins, del, along, next_of, there_of, before_of, put_along, ins_along, del_along}
-
-pub same_or_not : (a b : ℕ) → (a ≡ b) ⊎ (a ≡ b → ⊥)
-same_or_not a b = go (eqb a b) refl
-  where
-    go : (t : Bool) → eqb a b ≡ t → (a ≡ b) ⊎ (a ≡ b → ⊥)
-    go true e = inl (eqb-true a b e)
-    go false e = inr (eqb-false a b e)
 
 module _ {A : Type 0} where
   pub length_ins : (i : ℕ) (a : A) (l : List A) → length (ins i a l) ≡ suc (length l)
@@ -84,14 +78,14 @@ module _ {A : Type 0} where
       ⊎_elim
       (λ (e : i ≡ length l). rw (eq-eqb i (length l) e) (sym (ap (λ (k : ℕ). last_of d (ins k a l)) e ∙ last_ins l d a)))
       (λ (e : i ≡ length l → ⊥). rw (ne_eqb i (length l) e) (sym (last_ins_kept l d a i (omega arith))))
-      (same_or_not i (length l))
+      (cases_eq i (length l))
 
   pub last_deleted : (l : List A) (d : A) (i : ℕ) → i < length l → 1 < length l → cond (eqb (i + 1) (length l)) (before_of d l i) (last_of d l) ≡ last_of d (del i l)
   last_deleted l d i h two =
       ⊎_elim
       (λ (e : i + 1 ≡ length l). rw (eq-eqb (i + 1) (length l) e) (before i (omega arith) ∙ sym (last_del l d d i (omega arith))))
       (λ (e : i + 1 ≡ length l → ⊥). rw (ne_eqb (i + 1) (length l) e) (sym (last_del_kept l d i (omega arith))))
-      (same_or_not (i + 1) (length l))
+      (cases_eq (i + 1) (length l))
     where
       before : (k : ℕ) → 0 < k → before_of d l k ≡ get_or (d ∷ l) k d
       before zero p = absurd (not-suc-le-zero p)
@@ -156,7 +150,7 @@ module _ {C N : Type 0} (d : C) (normal : C → C → N) where
         let a : eqb (i + 1) (length cs) ≡ false = ne_eqb _ _ e in
         let k : last_of d (set cs i p) ≡ l = last_kept cs d p i (omega arith) in
         rw (a, k, add-one) (sym (from_put l cs i p)))
-        (same_or_not (i + 1) (length cs))
+        (cases_eq (i + 1) (length cs))
 
     pub ins_one : i ≤ length cs → ins_along d normal cs i p (afresh cs) ≡ afresh (ins i p cs)
     unfolding ins_along next_of
@@ -172,7 +166,7 @@ module _ {C N : Type 0} (d : C) (normal : C → C → N) where
         let a : eqb (i + 1) (length cs + 1) ≡ false = ne_eqb _ _ e in
         let k : last_of d (ins i p cs) ≡ l = last_ins_kept cs d p i (omega arith) in
         rw (a, k, add-one i) (sym (from_ins l cs i p h)))
-        (same_or_not (i + 1) (length cs + 1))
+        (cases_eq (i + 1) (length cs + 1))
 
   -- the last of several corners taken out: the corner before it is the last. Of one corner nothing is left
   others : (cs : List C) (i : ℕ) (m : C) → suc i ≡ length cs
@@ -200,4 +194,4 @@ module _ {C N : Type 0} (d : C) (normal : C → C → N) where
         let a : eqb (i + 1) (length cs) ≡ false = ne_eqb _ _ e in
         let k : last_of d (del i cs) ≡ m = last_del_kept cs d i (omega arith) in
         rw (a, k) (sym (from_del m cs i)))
-        (same_or_not (i + 1) (length cs))
+        (cases_eq (i + 1) (length cs))

@@ -8,7 +8,7 @@ use lib.ListN.{length}
 use Rattle.lists.specs.Counts.{how_many}
 use Rattle.lists.proofs.All.{All, none, more}
 
-one_more : (b : Bool) → cond b 1 0 ≤ 1
+pub one_more : (b : Bool) → cond b 1 0 ≤ 1
 one_more true = omega arith
 one_more false = omega arith
 

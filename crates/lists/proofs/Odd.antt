@@ -1,5 +1,6 @@
 -- Laws of `exactly_one`, and of what is odd in number along a list.
-use Prim.Native.Nat.{ℕ, ◌+◌, ◌%◌}
+use Prim.Native.Nat.{ℕ, suc, ◌+◌, ◌%◌}
+use native.Mathlib.Numerals.{one-add}
 use native.Mathlib.Omega.{arith}
 use mathlib.Core.Path.{◌≡◌, refl, sym, ap, ◌∙◌}
 use mathlib.Core.Bool.{Bool, true, false, not, cond}
@@ -54,6 +55,9 @@ pub ruleset xor = (one_assoc, one_comm, one_left, one_self, one_twice, one_false
 pub by_way : (x y z : Bool) → exactly_one x z ≡ exactly_one (exactly_one x y) (exactly_one y z)
 by_way x y z = simp xor
 
+pub on_one_side : (p a b : Bool) → exactly_one (exactly_one p a) (exactly_one p b) ≡ exactly_one a b
+on_one_side p a b = simp xor
+
 -- ---- along a list
 
 module _ {A : Type 0} (has : A → Bool) (odd : Bool) where
@@ -93,18 +97,18 @@ odd_both f g (a ∷ l) = ap (exactly_one (exactly_one (f a) (g a))) (odd_both f 
 
 -- ---- and numbers
 
-odd_suc : (n : ℕ) → is_odd (1 + n) ≡ not (is_odd n)
+pub odd_suc : (n : ℕ) → is_odd (suc n) ≡ not (is_odd n)
 odd_suc n = go (eqb (n % 2) 1) refl
   where
-    go : (b : Bool) → eqb (n % 2) 1 ≡ b → is_odd (1 + n) ≡ not b
-    go true e = let o = eqb-true (n % 2) 1 e in ne_eqb ((1 + n) % 2) 1 (λ (z : (1 + n) % 2 ≡ 1). omega (arith, o, z))
-    go false e = let o = eqb-false (n % 2) 1 e in eq-eqb ((1 + n) % 2) 1 (even o)
+    go : (b : Bool) → eqb (n % 2) 1 ≡ b → is_odd (suc n) ≡ not b
+    go true e = let o = eqb-true (n % 2) 1 e in ne_eqb (suc n % 2) 1 (λ (z : suc n % 2 ≡ 1). omega (arith, o, z))
+    go false e = let o = eqb-false (n % 2) 1 e in eq-eqb (suc n % 2) 1 (even o)
       where
-        even : (n % 2 ≡ 1 → ⊥) → (1 + n) % 2 ≡ 1
+        even : (n % 2 ≡ 1 → ⊥) → suc n % 2 ≡ 1
         even o = omega (arith, o)
 
 pub odd_more : (b : Bool) (n : ℕ) → is_odd (cond b 1 0 + n) ≡ exactly_one b (is_odd n)
-odd_more true n = odd_suc n ∙ flip (is_odd n)
+odd_more true n = ap is_odd (one-add n) ∙ odd_suc n ∙ flip (is_odd n)
   where
     flip : (b : Bool) → not b ≡ exactly_one true b
     flip true = refl

@@ -4,11 +4,12 @@ use mathlib.Core.Path.{◌≡◌, refl, sym, ◌∙◌}
 use mathlib.Core.Bool.{Bool, true, false, true≢false, false≢true}
 use lib.Dec.{T}
 use lib.Ieee.{Float, binary64, fits, lt}
+use Rattle.std.proofs.lemmas.Bool.{false_from_ne_true}
 use Rattle.float.specs.Doubles.{nought, two_pi, is_finite}
 use Rattle.float.proofs.Ordered.{one_way}
 use Rattle.float.proofs.Steps.{Fraction, fraction, far, far_back, far_first, far_last, far_once}
 use Rattle.lists.specs.Counts.{exactly_one}
-use Rattle.lists.proofs.Odd.{one_false, xor}
+use Rattle.lists.proofs.Odd.{on_one_side, one_false}
 use Rattle.region.specs.Edges.{in_lon_range, crosses_seam}
 use Rattle.region.proofs.InRange.{in_range_is}
 
@@ -17,10 +18,6 @@ pub record Longitude (x : Float) : Type 0 where
   pub finite : is_finite x ≡ true
   pub low : lt x nought ≡ false
   pub high : lt two_pi x ≡ false
-
-never : (b : Bool) → (b ≡ true → ⊥) → b ≡ false
-never true h = absurd (h refl)
-never false h = refl
 
 module _ (x y z : Float) (i : Longitude x) (j : Longitude y) (k : Longitude z) (xy : lt y x ≡ false) (yz : lt z y ≡ false) where
   abbrev fx : Fraction x (fraction x i.finite i.low).0 (fraction x i.finite i.low).1
@@ -34,20 +31,17 @@ module _ (x y z : Float) (i : Longitude x) (j : Longitude y) (k : Longitude z) (
 
   -- a step beyond PI from y to z, seen from x, and one from x to y, seen from z
   from_below : far y z ≡ true → (far x y ≡ false) × (far x z ≡ true)
-  from_below f = (never (far x y) (λ (g : far x y ≡ true). far_once fx fy fz xy yz k.high g f), far_last fx fy fz xy yz f)
+  from_below f = (false_from_ne_true (far x y) (λ (g : far x y ≡ true). far_once fx fy fz xy yz k.high g f), far_last fx fy fz xy yz f)
 
   from_above : far x y ≡ true → (far z x ≡ true) × (far z y ≡ false)
-  from_above f = (sym (far_back fx fz) ∙ far_first fx fy fz xy yz f, sym (far_back fy fz) ∙ never (far y z) (λ (g : far y z ≡ true). far_once fx fy fz xy yz k.high f g))
+  from_above f = (sym (far_back fx fz) ∙ far_first fx fy fz xy yz f, sym (far_back fy fz) ∙ false_from_ne_true (far y z) (λ (g : far y z ≡ true). far_once fx fy fz xy yz k.high f g))
 
   -- a step up to PI from x to z, seen from y between them
   from_between : far x z ≡ false → (far y x ≡ false) × (far y z ≡ false)
   from_between f = (
-    sym (far_back fx fy) ∙ never (far x y) (λ (g : far x y ≡ true). true≢false (sym (far_first fx fy fz xy yz g) ∙ f)),
-    never (far y z) (λ (g : far y z ≡ true). true≢false (sym (far_last fx fy fz xy yz g) ∙ f)),
+    sym (far_back fx fy) ∙ false_from_ne_true (far x y) (λ (g : far x y ≡ true). true≢false (sym (far_first fx fy fz xy yz g) ∙ f)),
+    false_from_ne_true (far y z) (λ (g : far y z ≡ true). true≢false (sym (far_last fx fy fz xy yz g) ∙ f)),
   )
-
-on_one_side : (p a b : Bool) → exactly_one (exactly_one p a) (exactly_one p b) ≡ exactly_one a b
-on_one_side p a b = simp xor
 
 -- the half on which a corner lies: east of the point's meridian and no further than PI, or further than PI and not east
 abbrev pub half : Float → Float → Bool

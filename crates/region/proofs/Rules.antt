@@ -2,22 +2,20 @@
 use Prim.Native.Nat.{ℕ, ◌≤◌, ◌<◌}
 use native.Mathlib.Omega.{arith}
 use mathlib.Core.Path.{◌≡◌, refl, sym, ap, subst, ◌∙◌}
-use mathlib.Core.Bool.{Bool, true, false}
+use mathlib.Core.Bool.{Bool}
 use mathlib.Core.List.{List}
 use Rattle.coo3d.specs.declared.Coo3D.{Coo3D}
 use Rattle.domain.specs.Checks.{point_at}
 use Rattle.domain.proofs.Counts.{count_few}
 use Rattle.domain.proofs.Handed.{handed_again}
 use Rattle.lists.specs.Counts.{exactly_one}
+use Rattle.lists.proofs.Odd.{one_twice}
 use Rattle.refusal.specs.Answer.{Answer, answered, refused, and_then}
 use Rattle.refusal.proofs.Answers.{never, same_answer}
 use Rattle.region.specs.declared.ContainsSouthPoleMethod.{ContainsSouthPoleMethod}
 use Rattle.region.specs.declared.ContainsSouthPoleMethod.TheVariants.{Default, DefaultComplement, ContainsSouthPole, DoNotContainsSouthPole, ControlPointIn, ControlPointOut}
 use Rattle.region.specs.View.{View, odd_at, contained}
 use Rattle.region.specs.Region.{contains_of, rule_at}
-
-pub no_zero : {n : ℕ} → (n ≡ 0 → ⊥) → 0 < n
-no_zero h = omega (arith, h)
 
 pub some : {n : ℕ} → 0 < n → n ≡ 0 → ⊥
 some h e = omega (arith, h, e)
@@ -66,17 +64,11 @@ one_point_out q p e = cc e
 
 -- ---- the side of a point that was checked, and the flag, tell whether an odd number of edges is counted there
 
-twice : (f odd : Bool) → exactly_one f (exactly_one f odd) ≡ odd
-twice true true = refl
-twice true false = refl
-twice false true = refl
-twice false false = refl
-
 pub odd_told : (v : View) (p : Coo3D) (b : Bool) → (0 < v.count) × (v.count ≤ 64) × (point_at 0 p ≡ answered p) → answered b ≡ contains_of v p → exactly_one v.flag b ≡ odd_at p v
 unfolding contains_of contained
 odd_told v p b (n, few, h) e =
     let side : b ≡ exactly_one v.flag (odd_at p v) = same_answer (e ∙ count_few v.count _ (some n) few ∙ rw h) in
-    ap (exactly_one v.flag) side ∙ twice v.flag (odd_at p v)
+    ap (exactly_one v.flag) side ∙ one_twice v.flag (odd_at p v)
 
 pub never_told : {A : Type 0} (v : View) (p : Coo3D) (k : ℕ) (vs : List ℕ) → (0 < v.count) × (v.count ≤ 64) × (point_at 0 p ≡ answered p) → refused k vs ≡ contains_of v p → A
 unfolding contains_of

@@ -3,9 +3,7 @@ use Prim.Native.Nat.{ℕ, zero, suc, ◌+◌, ◌*◌, ◌^◌, ◌/◌, ◌%◌
 use native.Mathlib.Omega.{arith}
 use native.Mathlib.Nat.{mul_assoc, mul_comm, pow-suc, div-one, div-div-eq-div-mul}
 use mathlib.Core.Path.{◌≡◌, refl, sym, ap, ◌∙◌}
-use mathlib.Core.Bool.{Bool, true, false, cond}
 use mathlib.Core.List.{List, [], ◌∷◌, ◌++◌, append_assoc}
-use mir.Val.{bool_byte}
 use lib.ListN.{length, take, drop, get_or, set, length-drop}
 use lib.Seq.{sets, sets-eq, drop-cons, drop-drop, take-add, take_all, take-suc, length-take-le}
 use borrow.Rule.Slice.PartMut.{put_mid}
@@ -37,11 +35,6 @@ number_append (x ∷ xs) ys =
     ap (λ (k : ℕ). k * number_in ys) (pow-suc 256 (length xs) ∙ mul_comm (256 ^ length xs) 256) ∙ mul_assoc 256 (256 ^ length xs) (number_in ys)
     in
     omega (arith, number_append xs ys, step)
-
--- a flag as a number
-pub flag_number : (b : Bool) → bool_byte b ≡ cond b 1 0
-flag_number true = refl
-flag_number false = refl
 
 -- ---- what four and eight bytes hold, byte by byte
 

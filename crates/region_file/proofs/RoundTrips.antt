@@ -15,6 +15,7 @@ use Rattle.coo3d.specs.Points.{of_doubles, are_doubles}
 use Rattle.domain.proofs.Inside.{Inside, Finite, settled_finite, points_back, back_in, back_same}
 use Rattle.float.specs.Doubles.{is_finite}
 use Rattle.lists.proofs.All.{more, both}
+use Rattle.lists.proofs.Many.{one_more}
 use Rattle.refusal.specs.Answer.{Answer, answered, refused, and_then}
 use Rattle.refusal.proofs.Answers.{never}
 use Rattle.region.specs.View.{View, made}
@@ -84,10 +85,6 @@ flag_back : (b : Bool) → eqb (cond b 1 0) 1 ≡ b
 flag_back true = refl
 flag_back false = refl
 
-flag_small : (b : Bool) → cond b 1 0 ≤ 1
-flag_small true = omega arith
-flag_small false = omega arith
-
 trailer_back : (p : List ℕ) (flag : Bool) (n : ℕ) → 0 < n → n ≤ 64 → 40 * n ≤ length p → trailer_of (p ++ trailer_bytes flag n) ≡ answered (record { flag = flag; count = n })
 unfolding trailer_bytes number_at bytes_of
 trailer_back p flag n some few room =
@@ -97,12 +94,12 @@ trailer_back p flag n some few room =
     let at : length s - 16 ≡ length p = omega (arith, l) in
     let long : 16 ≤ length s = omega (arith, l) in
     let whole : file_length n ≤ length s = omega (arith, l, room) in
-    let small : cond flag 1 0 < 256 ^ 4 = omega (arith, flag_small flag) in
+    let small : cond flag 1 0 < 256 ^ 4 = omega (arith, one_more flag) in
     let edition : 1 ≡ number_at 4 s (length s - 16) = sym (ap (number_at 4 s) at ∙ at_front 4 p t ∙ number_bytes 4 1 (omega arith)) in
     let flagged : cond flag 1 0 ≡ number_at 4 s (length s - 16 + 4) = sym (ap (λ (k : ℕ). number_at 4 s (k + 4)) at ∙ behind 4 4 p t ∙ number_bytes 4 (cond flag 1 0) small) in
     let counted : n ≡ number_at 4 s (length s - 16 + 8) = sym (ap (λ (k : ℕ). number_at 4 s (k + 8)) at ∙ behind 4 8 p t ∙ number_bytes 4 n (omega (arith, few))) in
     let back : file_length n ≡ number_at 4 s (length s - 16 + 12) = sym (ap (λ (k : ℕ). number_at 4 s (k + 12)) at ∙ behind 4 12 p t ∙ number_bytes 4 (file_length n) (omega (arith, few))) in
-    sym (good (record { long = long; edition_is = edition; flag_is = flagged; count_is = counted; distance_is = back }) refl (flag_small flag) (some, few) refl refl whole)
+    sym (good (record { long = long; edition_is = edition; flag_is = flagged; count_is = counted; distance_is = back }) refl (one_more flag) (some, few) refl refl whole)
     ∙ rw (flag_back flag)
 
 pub read_written : ReadWritten

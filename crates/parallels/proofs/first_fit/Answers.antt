@@ -3,13 +3,13 @@ use mathlib.Core.Path.{◌≡◌, refl, sym, ap, ◌∙◌}
 use mathlib.Core.Bool.{false}
 use Prim.Native.Nat.{◌+◌, ◌<◌}
 use native.Mathlib.Omega.{arith}
+use borrow.Author.Rules.{rules}
 use lib.ListN.{length, get_or}
 use Rattle.crossings.specs.Crossings.{first_of}
 use Rattle.crossings.proofs.First.{only_tested}
 use Rattle.crossings.proofs.Turns.{taken}
 use Rattle.region.specs.View.{view_of, nowhere, edges_of}
 use Rattle.region.proofs.Edges.{edges_left}
-use Rattle.region.proofs.Lengths.{unmap}
 use Rattle.parallels.proofs.First.{fit_start, fit_not, fit_here, fit_nowhere}
 use Rattle.parallels.proofs.Sides.{alike, one_side}
 use Rattle.parallels.specs.Parallels.{spans_lat}
@@ -23,7 +23,7 @@ whole c = taken (λ p. first_of (first_fit p.lat p.sin p.cos (edges_of (view_of 
 
 pub loop-i-init : goal.loop-i-init
 loop-i-init c =
-    let v : length c.args.r.now.vertices ≡ 64 = search unmap in
+    let v : length c.args.r.now.vertices ≡ 64 = search rules in
     (omega (arith, c.in_ok-check_count.ensures.few.0), refl, fit_start c.args.r.now _ _ _ v c.in_ok-check_count.ensures.few)
 
 pub bounds-r-before-in-loop-i : goal.bounds-r-before-in-loop-i
@@ -32,8 +32,8 @@ bounds-r-before-in-loop-i c = omega (arith, c.loop-i.invariant.0, c.in_ok-check_
 pub returns-then-spans_lat : goal.returns-then-spans_lat
 returns-then-spans_lat c =
     let r = c.args.r.now in
-    let v : length r.vertices ≡ 64 = search unmap in
-    let n : length r.cross_products ≡ 64 = search unmap in
+    let v : length r.vertices ≡ 64 = search rules in
+    let n : length r.cross_products ≡ 64 = search rules in
     only_tested _ _ c.test_finite.ensures
     ∙ ap first_of (sym (fit_here r _ _ _ v c.in_ok-check_count.ensures.few _ c.loop-i.i n c.loop-i-test.true _ c.if-spans_lat.ensures c.point_of.ensures))
     ∙ sym (whole (goal.at.returns-then-spans_lat c).At-loop-i)
@@ -50,8 +50,8 @@ pass c v n below h = c.loop-i.invariant.2 ∙ fit_not c.args.r.now _ _ _ v c.in_
 
 pub loop-i-preserved : goal.loop-i-preserved
 loop-i-preserved c =
-    let v : length c.args.r.now.vertices ≡ 64 = search unmap in
-    let n : length c.args.r.now.cross_products ≡ 64 = search unmap in
+    let v : length c.args.r.now.vertices ≡ 64 = search rules in
+    let n : length c.args.r.now.cross_products ≡ 64 = search rules in
     let x = (goal.at.loop-i-preserved c).At-loop-i in
     let below = c.loop-i-test.true in
     elim c.if-from_below-to_below.branch [
@@ -64,5 +64,5 @@ loop-i-preserved c =
 pub returns : goal.returns
 unfolding first_of
 returns c =
-    let v : length c.args.r.now.vertices ≡ 64 = search unmap in
+    let v : length c.args.r.now.vertices ≡ 64 = search rules in
     sym (whole (goal.at.returns c).At-loop-i ∙ ap first_of (fit_nowhere c.args.r.now _ _ _ v c.in_ok-check_count.ensures.few _ c.loop-i.i c.loop-i-test.false))

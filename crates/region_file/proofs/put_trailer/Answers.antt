@@ -7,7 +7,8 @@ use mathlib.Core.List.{List, ◌++◌}
 use lib.Seq.{sets}
 use Rattle.region_file.specs.Bytes.{bytes_of}
 use Rattle.region_file.specs.File.{file_length, trailer_bytes}
-use Rattle.region_file.proofs.Numbers.{run, flag_number}
+use Rattle.region.proofs.Seam.{as_number}
+use Rattle.region_file.proofs.Numbers.{run}
 use Rattle.region_file.proofs.put_trailer.Goals as goal
 
 four : (l₀ l₁ l₂ l₃ l₄ : List ℕ) (at set n distance : ℕ) (flag : Bool) → set ≡ cond flag 1 0 → distance ≡ file_length n
@@ -21,4 +22,4 @@ four l₀ l₁ l₂ l₃ l₄ at set n distance flag p q h₁ h₂ h₃ h₄ =
     ∙ rw (p, q)
 
 pub returns : goal.returns
-returns c = four _ _ _ _ _ _ _ c.args.count _ c.args.flag (flag_number c.args.flag) c.file_length.ensures c.put_u32.ensures c.put_u32-2.ensures c.put_u32-3.ensures c.put_u32-4.ensures
+returns c = four _ _ _ _ _ _ _ c.args.count _ c.args.flag (as_number c.args.flag) c.file_length.ensures c.put_u32.ensures c.put_u32-2.ensures c.put_u32-3.ensures c.put_u32-4.ensures

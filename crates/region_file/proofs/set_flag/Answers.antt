@@ -11,7 +11,8 @@ use Rattle.refusal.specs.Answer.{answered, refused}
 use Rattle.region_file.specs.declared.Trailer.{Trailer}
 use Rattle.region_file.specs.Bytes.{bytes_of}
 use Rattle.region_file.specs.File.{flag_bytes, trailer_of, with_flag_field}
-use Rattle.region_file.proofs.Numbers.{length_bytes, flag_number}
+use Rattle.region.proofs.Seam.{as_number}
+use Rattle.region_file.proofs.Numbers.{length_bytes}
 use Rattle.region_file.proofs.Trailers.{accepted}
 use Rattle.region_file.proofs.set_flag.Goals as goal
 
@@ -27,7 +28,7 @@ module _ (s : List ℕ) (t : Trailer) (told : answered t ≡ trailer_of s) where
       let w : length (flag_bytes flag) ≡ 4 = length_bytes 4 (cond flag 1 0) in
       let room : length s - 12 + length (flag_bytes flag) ≤ length s = omega (arith, h, w) in
       let e : length s - 12 + length (flag_bytes flag) ≡ length s - 8 = omega (arith, h, w) in
-      ap (λ (n : ℕ). sets s (length s - 12) (bytes_of 4 n)) (flag_number flag) ∙ sets-eq (flag_bytes flag) s (length s - 12) room ∙ rw (e, sym told)
+      ap (λ (n : ℕ). sets s (length s - 12) (bytes_of 4 n)) (as_number flag) ∙ sets-eq (flag_bytes flag) s (length s - 12) room ∙ rw (e, sym told)
 
 -- a trailer that is refused
 field_left : (s : List ℕ) (k : ℕ) (vs : List ℕ) → refused k vs ≡ trailer_of s → (flag : Bool) → s ≡ with_flag_field s flag

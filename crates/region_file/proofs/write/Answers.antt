@@ -6,7 +6,6 @@ use lib.ListN.{length}
 use lib.Seq.{length-take-le}
 use borrow.Author.Rules.{rules}
 use Rattle.domain.proofs.Counts.{count_refused}
-use Rattle.region.proofs.Lengths.{unmap}
 use Rattle.region.specs.View.{view_of}
 use Rattle.refusal.specs.Answer.{answered}
 use Rattle.region_file.specs.File.{write_of}
@@ -17,7 +16,7 @@ use Rattle.region_file.proofs.write.Goals.{Start}
 
 -- there are as many corners as are counted
 long : (c : Start) → c.args.r.count ≤ 64 → c.args.r.count ≤ length c.args.r.vertices
-long c h = let e : length c.args.r.vertices ≡ 64 = search unmap in omega (arith, e, h)
+long c h = let e : length c.args.r.vertices ≡ 64 = search rules in omega (arith, e, h)
 
 pub returns-in_err-check_count : goal.returns-in_err-check_count
 unfolding write_of
