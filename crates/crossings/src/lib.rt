@@ -15,7 +15,7 @@ use refusal::Cause;
 use region::Region;
 use std::marker::Model;
 
-// The first `len` points, in the order of their edges; the others are zero.
+// The first `len` points, in the order of their edges; the others are zero. An array beside its length, since there is no heap.
 #[derive(Clone, Copy)]
 pub struct Crossings {
     pub points: [UnitVect3; 64],
@@ -33,6 +33,7 @@ impl Crossings {
         }
     }
 
+    // Of a list with room: an edge gives one point at most, and there are 64.
     fn push(&mut self, point: UnitVect3)
         requires { self.old.len < 64 }
         ensures { self.new ≡ record { points = slice_set self.old.points self.old.len point; len = self.old.len + 1 } }

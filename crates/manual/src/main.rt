@@ -1,4 +1,5 @@
-// The worked examples of docs/CALLS.md, in its order: what they print is crates/manual/stdout, and tests/manual holds the document to both.
+// The worked examples of docs/CALLS.md, in its order: what they print is crates/manual/stdout, and tests/manual holds the document to both. Corners and
+// files are arrays, since the calls need no heap.
 #![tactic(auto)]
 
 ghost use Rattle.std.specs.Prelude.{Some};
