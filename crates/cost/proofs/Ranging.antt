@@ -1,25 +1,27 @@
 -- Laws for the loop that decides containment and counts the edges in range.
-use Prim.Native.Nat.{ℕ, ◌+◌, ◌-◌, ◌≤◌, ◌<◌}
+use Prim.Native.Nat.{ℕ, ◌+◌, ◌≤◌, ◌<◌}
 use native.Mathlib.Omega.{arith}
-use mir.Val.{bool_byte}
 use mathlib.Core.Path.{◌≡◌, refl, sym, ap, ◌∙◌}
 use mathlib.Core.Bool.{Bool, true, false, cond}
-use mathlib.Core.List.{List, []}
-use lib.ListN.{length, get_or}
+use mathlib.Core.List.{List, [], ◌∷◌}
+use Rattle.std.proofs.Math.Nat.{zero-add}
+use lib.Ieee.{Float, lt}
 use Rattle.coo3d.specs.declared.Coo3D.{Coo3D}
+use Rattle.coo3d.specs.Vectors.{vect_of_point, dot_of}
+use Rattle.float.specs.Doubles.{nought}
 use Rattle.domain.specs.Checks.{point_at, with_count}
 use lib.Dec.{eqb, ltb}
 use Rattle.lists.specs.Counts.{exactly_one, odd_many, how_many}
-use Rattle.lists.proofs.Many.{many_turn, many_done}
+use Rattle.lists.proofs.Many.{many_turn, many_done, many_most}
+use Rattle.lists.proofs.Odd.{odd_turn, odd_done}
 use Rattle.refusal.specs.Answer.{Answer, answered, refused, refuse_if, and_then, answer_of}
 use Rattle.region.specs.declared.Region.{Region}
 use Rattle.region.specs.declared.Edge.{Edge}
 use Rattle.region.specs.Edges.{is_in_range, is_counted}
 use Rattle.region.specs.Region.{contains_of}
-use Rattle.region.specs.View.{View, view_of, nowhere, edges_of, in_range_count, odd_at, contained}
-use Rattle.region.proofs.Containing.{passed, all_passed}
-use Rattle.region.proofs.Edges.{edges_left, edge_at, start, turn, done}
-use Rattle.region.proofs.Seam.{as_number, one_at_most}
+use Rattle.region.specs.View.{View, view_of, edges_of, in_range_count, odd_at, contained}
+use Rattle.region.proofs.Containing.{out_of_range, in_range_there}
+use Rattle.region.proofs.Edges.{edges_length}
 use Rattle.cost.specs.declared.RangedDecision.{RangedDecision}
 use Rattle.cost.specs.RangeCount.{range_count_of, number_or0, Ranged}
 
@@ -43,39 +45,48 @@ module _ (a : RangedDecision) (v : View) (p : Coo3D) where
   unfolding contains_of range_count_of in_range_count
   ranged e d h = record { decision = d ∙ ap answered h.0 ∙ sym (asked v.count p _ _ e); in_range = h.1 ∙ ap number_or0 (sym (asked v.count p _ _ e)) }
 
--- ---- the loop: the edges before i are passed, `n` of them were in range, and `side` is the flag, turned over at each that was counted
+-- ---- the loop: `es` are the edges that are left, `n` of the others were in range, and `side` is the flag, turned over at each that was counted
 
-pub record Passing (p : Coo3D) (r : Region) (flag side : Bool) (n : ℕ) (from : Coo3D) (i : ℕ) : Type 0 where
-  pub few : n ≤ i
-  pub sides : exactly_one side (odd_many (is_counted p) (edges_left r from i)) ≡ exactly_one flag (odd_many (is_counted p) (edges_of (view_of r)))
-  pub number : n + how_many (is_in_range p) (edges_left r from i) ≡ how_many (is_in_range p) (edges_of (view_of r))
+pub record Passing (p : Coo3D) (r : Region) (side : Bool) (n : ℕ) (es : List Edge) : Type 0 where
+  pub sides : exactly_one side (odd_many (is_counted p) es) ≡ contained p (view_of r)
+  pub number : n + how_many (is_in_range p) es ≡ in_range_count p (view_of r)
 
-nothing_yet : (n : ℕ) → 0 + n ≡ n
-nothing_yet n = omega arith
-
-pub passing_starts : (p : Coo3D) (r : Region) (flag : Bool) → 0 < r.count → r.count ≤ length r.vertices → Passing p r flag flag 0 (get_or r.vertices (r.count - 1) nowhere) 0
-passing_starts p r flag some long =
-    let e = start r some long in
-    record {
-      few = omega arith;
-      sides = ap (λ (es : List Edge). exactly_one flag (odd_many (is_counted p) es)) (sym e);
-      number = nothing_yet _ ∙ ap (how_many (is_in_range p)) (sym e);
-    }
-
-module _ {p : Coo3D} {r : Region} {flag side : Bool} {n i : ℕ} {from : Coo3D} (inv : Passing p r flag side n from i) (long : r.count ≤ length r.vertices) where
-  pub passing_turn : r.count ≤ length r.cross_products → i < r.count → (side' there : Bool) → side' ≡ exactly_one side (is_counted p (edge_at r from i)) → there ≡ is_in_range p (edge_at r from i) → Passing p r flag side' (n + bool_byte there) (get_or r.vertices i nowhere) (i + 1)
-  passing_turn long' below side' there e f =
-      let few = inv.few in
-      let more = one_at_most there in
-      record {
-        few = omega (arith, few, more);
-        sides = passed p r side side' from i long long' below e ∙ inv.sides;
-        number = ap (λ (k : ℕ). n + k + how_many (is_in_range p) (edges_left r (get_or r.vertices i nowhere) (i + 1))) (as_number there ∙ ap (λ (b : Bool). cond b 1 0) f) ∙ sym (many_turn (is_in_range p) n (edge_at r from i) _) ∙ ap (λ (es : List Edge). n + how_many (is_in_range p) es) (sym (turn r from i long long' below)) ∙ inv.number;
-      }
-
-  pub all_ranged : flag ≡ r.contains_south_pole → r.count ≤ i → (side ≡ contained p (view_of r)) × (n ≡ in_range_count p (view_of r))
+module _ {p : Coo3D} {r : Region} {es : List Edge} where
+  pub passing_starts : es ≡ edges_of (view_of r) → Passing p r r.contains_south_pole 0 es
   unfolding contained odd_at in_range_count
-  all_ranged e over = (
-    all_passed p r side from i long over ∙ inv.sides ∙ ap (λ (b : Bool). exactly_one b (odd_many (is_counted p) (edges_of (view_of r)))) e,
-    sym (many_done (is_in_range p) n) ∙ ap (λ (es : List Edge). n + how_many (is_in_range p) es) (sym (done r from i long over)) ∙ inv.number,
-  )
+  passing_starts e = record { sides = rw e refl; number = rw e (zero-add _) }
+
+  module _ {side : Bool} {n : ℕ} (inv : Passing p r side n es) where
+    module _ {edge : Edge} {rest : List Edge} (next : es ≡ edge ∷ rest) where
+      number_next : (n + cond (is_in_range p edge) 1 0) + how_many (is_in_range p) rest ≡ in_range_count p (view_of r)
+      number_next = sym (many_turn (is_in_range p) n edge rest) ∙ ap (λ (l : List Edge). n + how_many (is_in_range p) l) (sym next) ∙ inv.number
+
+      sides_next : (side' : Bool) → side' ≡ exactly_one side (is_counted p edge) → exactly_one side' (odd_many (is_counted p) rest) ≡ contained p (view_of r)
+      sides_next side' e = rw e (sym (odd_turn (is_counted p) side edge rest)) ∙ ap (λ (l : List Edge). exactly_one side (odd_many (is_counted p) l)) (sym next) ∙ inv.sides
+
+      pub passing_in_range : (d : Float) → is_in_range p edge ≡ true → d ≡ dot_of (vect_of_point p) edge.normal → Passing p r (exactly_one side (lt nought d)) (n + 1) rest
+      passing_in_range d h e =
+          record {
+            sides = sides_next _ (in_range_there p edge side d h e);
+            number = ap (λ (b : Bool). n + cond b 1 0 + how_many (is_in_range p) rest) (sym h) ∙ number_next;
+          }
+
+      pub passing_out_of_range : is_in_range p edge ≡ false → Passing p r side n rest
+      passing_out_of_range h =
+          let all = ap (λ (b : Bool). n + cond b 1 0 + how_many (is_in_range p) rest) (sym h) ∙ number_next in
+          record { sides = sides_next side (out_of_range p edge side h); number = omega (arith, all) }
+
+      -- there are no more of them than edges
+      pub passing_few : r.count ≤ 64 → is_in_range p edge ≡ true → n < 64
+      unfolding in_range_count
+      passing_few few h =
+          let all = ap (λ (b : Bool). n + cond b 1 0 + how_many (is_in_range p) rest) (sym h) ∙ number_next in
+          let most = many_most (is_in_range p) (edges_of (view_of r)) in
+          let long = edges_length r in
+          omega (arith, all, most, long, few)
+
+    pub all_ranged : es ≡ [] → (side ≡ contained p (view_of r)) × (n ≡ in_range_count p (view_of r))
+    all_ranged e = (
+      sym (odd_done (is_counted p) side) ∙ ap (λ (l : List Edge). exactly_one side (odd_many (is_counted p) l)) (sym e) ∙ inv.sides,
+      sym (many_done (is_in_range p) n) ∙ ap (λ (l : List Edge). n + how_many (is_in_range p) l) (sym e) ∙ inv.number,
+    )

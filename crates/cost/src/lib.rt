@@ -58,27 +58,21 @@ fn checked(count: usize, coo: Coo3D) -> Result<Coo3D, Cause>
 }
 
 // `region::contains`, and how many edges were in range.
+// With the number added to outside the branch, 64 corners take a tenth more instructions; by `Edge::is_counted`, three tenths more.
 pub fn contains_with_range_count(r: Region, coo: Coo3D) -> RangedDecision
     ensures { Ranged result (view_of r) coo }
 {
-    let count = r.count;
-    let p = match checked(count, coo) {
+    let p = match checked(r.count, coo) {
         Ok(p) => p,
         Err(cause) => return refused(cause),
     };
-    let vertices = r.vertices;
-    let normals = r.cross_products;
-    let mut from = vertices[count - 1];
     let mut is_inside = r.contains_south_pole;
     let mut in_range: usize = 0;
-    for i in 0..count {
-        let to = vertices[i];
-        let is_in_range = region::is_in_lon_range(p, from, to);
-        in_range += is_in_range as usize;
-        if is_in_range {
-            is_inside = is_inside != (coo3d::dot_product(p, normals[i]) > 0.0);
+    for edge in r.edges() {
+        if edge.is_in_range(p) {
+            in_range += 1;
+            is_inside = is_inside != (coo3d::dot_product(p, edge.normal) > 0.0);
         }
-        from = to;
     }
     RangedDecision {
         decision: Ok(is_inside),
