@@ -14,7 +14,7 @@ use Rattle.std.specs.Result.{MatchResult, IsOkAnd, result_and}
 use Rattle.coo3d.specs.declared.Coo3D.{Coo3D}
 use Rattle.domain.specs.Checks.{point_at, with_count}
 use Rattle.domain.proofs.Counts.{count_in, count_answered, count_refused}
-use Rattle.std.proofs.lemmas.Bool.{cases_eq as same_or_not}
+use Rattle.std.proofs.lemmas.Bool.{cases_eq}
 use Rattle.refusal.specs.Answer.{Answer, answered, refused, refused_for, refuse_if, and_then, answer_of}
 use Rattle.refusal.specs.declared.Cause.{Cause}
 use Rattle.refusal.proofs.Answers.{not_refused, then_assoc}
@@ -71,7 +71,7 @@ module _ (n i : ℕ) (p : Coo3D) where
           ⊎_elim
           (λ (e : n ≡ 64). let few : n ≤ 64 = omega arith in rw (le-ltb 64 n few, eq-eqb n 64 e))
           (λ (e : n ≡ 64 → ⊥). let more : 64 < n = omega (arith, h) in rw (lt-ltb 64 n more))
-          (same_or_not n 64)
+          (cases_eq n 64)
       go false e =
           let h = ltb-false 63 n e in
           let few : n ≤ 64 = omega (arith, h) in

@@ -10,7 +10,7 @@ use lib.Seq.{get_or-take, length-take-le, take-set-lt, get_or-set_same, set-set}
 use Rattle.coo3d.specs.declared.Coo3D.{Coo3D}
 use Rattle.coo3d.specs.declared.Vect3.{Vect3}
 use Rattle.lists.specs.Cyclic.{ins, del, prev_of, next_of, there_of, before_of, put_along, ins_along, del_along}
-use Rattle.std.proofs.lemmas.Bool.{cases_eq as same_or_not}
+use Rattle.std.proofs.lemmas.Bool.{cases_eq}
 use Rattle.lists.proofs.Cyclic.{length_ins, length_del}
 use Rattle.region.specs.Edges.{normal_of}
 use Rattle.region.specs.View.{View, with_corners, seams_of, nowhere}
@@ -103,7 +103,7 @@ module _ (vs : List Coo3D) (ns : List Vect3) (n i : ℕ) (long : n ≤ length vs
       ∙ ap (λ (k : ℕ). get_or (set (take n vs) i p) (prev_of k i) nowhere) (sym len)
       ∙ before_put nowhere (take n vs) i p (rw len (omega (arith, h, e))) (rw len h) in
       rw (len, to, from, at, there))
-      (same_or_not n 1)
+      (cases_eq n 1)
     where
       twice : (l : List Vect3) (i j : ℕ) (a b c : Vect3) → j ≡ i → set (set l i a) j c ≡ set (set l i b) j c
       twice l i j a b c e = rw (e, set-set l i a c, set-set l i b c)

@@ -12,7 +12,7 @@ use lib.Seq.{take-length, take-take, take-set-lt, length-take-le, paste}
 use Rattle.std.proofs.lemmas.List.{get_or-set_other, set-append_left, drop-take, length-drop}
 use Rattle.std.proofs.lemmas.List.Edits.{take-paste}
 use Rattle.lists.specs.Cyclic.{last_of, ins, del, prev_of, next_of, there_of, before_of}
-use Rattle.std.proofs.lemmas.Bool.{cases_eq as same_or_not}
+use Rattle.std.proofs.lemmas.Bool.{cases_eq}
 use Rattle.lists.proofs.Shifts.{ins_is, del_is}
 use Rattle.lists.proofs.Passing.{stored}
 use Rattle.region.proofs.Edges.{last_take}
@@ -25,7 +25,7 @@ prev_next n i h =
     ⊎_elim
     (λ (e : i + 1 ≡ n). rw (eq-eqb (i + 1) n e) (omega (arith, e)))
     (λ (e : i + 1 ≡ n → ⊥). rw (ne_eqb (i + 1) n e, ne_eqb (i + 1) 0 (λ (z : i + 1 ≡ 0). omega (arith, z))) (omega arith))
-    (same_or_not (i + 1) n)
+    (cases_eq (i + 1) n)
 
 pub prev_below : (n i : ℕ) → 0 < n → i ≤ n → prev_of n i < n
 unfolding prev_of
@@ -38,7 +38,7 @@ next_below n i h =
     ⊎_elim
     (λ (e : i + 1 ≡ n). rw (eq-eqb (i + 1) n e) (omega (arith, e)))
     (λ (e : i + 1 ≡ n → ⊥). rw (ne_eqb (i + 1) n e) (omega (arith, h, e)))
-    (same_or_not (i + 1) n)
+    (cases_eq (i + 1) n)
 
 pub there_below : (n i : ℕ) → i < n → 1 < n → there_of n i < n - 1
 unfolding there_of
@@ -46,7 +46,7 @@ there_below n i h two =
     ⊎_elim
     (λ (e : i + 1 ≡ n). rw (eq-eqb (i + 1) n e) (omega (arith, two)))
     (λ (e : i + 1 ≡ n → ⊥). rw (ne_eqb (i + 1) n e) (omega (arith, h, e)))
-    (same_or_not (i + 1) n)
+    (cases_eq (i + 1) n)
 
 -- ---- the element before
 
@@ -118,7 +118,7 @@ module _ {A : Type 0} (d : A) where
       ⊎_elim
       (λ (e : i + 1 ≡ length l). before_last l i two e)
       (λ (e : i + 1 ≡ length l → ⊥). before_inner l i two (omega (arith, h, e)) e)
-      (same_or_not (i + 1) (length l))
+      (cases_eq (i + 1) (length l))
 
 -- ---- a part copied by one place
 

@@ -1,4 +1,3 @@
-pub mod Lengths
 pub mod Edges
 pub mod Containing
 pub mod Corners

@@ -5,7 +5,6 @@ use mathlib.Core.Path.{◌≡◌, refl, ap, ◌∙◌}
 use borrow.Author.Rules.{rules}
 use lib.ListN.{length, take, set}
 use Rattle.std.proofs.lemmas.Result.{err_from_is_err_and}
-use Rattle.region.proofs.Lengths.{unmap}
 use Rattle.edits.specs.Edits.{insert}
 use Rattle.edits.proofs.Checked.{refused_edit, done_edit, refused_by, done_by, insert_asked, asked_refused, asked_done}
 use Rattle.edits.proofs.Moved.{view_inserted}
@@ -23,8 +22,8 @@ returns c =
     let a = c.args in
     let r = a.region.now in
     let n = r.count in
-    let e : length r.vertices ≡ 64 = search unmap in
-    let e' : length r.cross_products ≡ 64 = search unmap in
+    let e : length r.vertices ≡ 64 = search rules in
+    let e' : length r.cross_products ≡ 64 = search rules in
     let inside = c.in_ok-p.ensures.inside in
     let few = inside.1.0 in
     let h : a.i ≤ n = search rules in

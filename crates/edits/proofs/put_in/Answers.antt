@@ -4,7 +4,6 @@ use mathlib.Core.Path.{◌≡◌, refl}
 use borrow.Author.Rules.{rules}
 use lib.ListN.{length}
 use Rattle.std.proofs.lemmas.Result.{err_from_is_err_and}
-use Rattle.region.proofs.Lengths.{unmap}
 use Rattle.edits.specs.Edits.{put}
 use Rattle.edits.proofs.Checked.{refused_edit, done_edit, refused_by, done_by, put_asked, asked_refused, asked_done}
 use Rattle.edits.proofs.Moved.{view_put}
@@ -20,7 +19,7 @@ pub returns : goal.returns
 returns c =
     let a = c.args in
     let r = a.region.now in
-    let e : length r.vertices ≡ 64 = search unmap in
+    let e : length r.vertices ≡ 64 = search rules in
     let few = c.in_ok-p.ensures.inside.1.0 in
     let seams = rw (c.set_normal-2.ensures, c.set_normal.ensures) at c.seams_of-region.ensures in
     done_edit _ _ _ refl

@@ -2,9 +2,9 @@
 use Prim.Native.Nat.{◌-◌}
 use native.Mathlib.Omega.{arith}
 use mathlib.Core.Path.{◌≡◌, refl, sym, ap, ◌∙◌}
+use borrow.Author.Rules.{rules}
 use lib.ListN.{length, take}
 use Rattle.std.proofs.lemmas.Result.{err_from_is_err_and}
-use Rattle.region.proofs.Lengths.{unmap}
 use Rattle.edits.proofs.Checked.{refused_edit, done_edit, refused_by, done_by}
 use Rattle.edits.proofs.Moved.{view_removed}
 use Rattle.edits.proofs.Neighbours.{copied_down}
@@ -20,8 +20,8 @@ returns c =
     let a = c.args in
     let r = a.region.now in
     let n = r.count in
-    let e : length r.vertices ≡ 64 = search unmap in
-    let e' : length r.cross_products ≡ 64 = search unmap in
+    let e : length r.vertices ≡ 64 = search rules in
+    let e' : length r.cross_products ≡ 64 = search rules in
     let inside = c.in_ok-removable.ensures.inside in
     let there = inside.0 in
     let two = inside.1.0 in
