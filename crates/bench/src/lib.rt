@@ -150,7 +150,7 @@ fn point_at(s: &[f64], i: usize) -> Coo3D {
     }
 }
 
-// By an index, here and below: by `iter_mut` the loops' own part of the stack took 10 KB more on the Cortex-M0.
+// By an index, here and below: by `iter_mut` the loops took 10 KB more stack on the Cortex-M0, whose memory is fixed.
 fn corners_of(s: &[f64]) -> [Coo3D; 64] {
     let mut corners = [Coo3D::origin(); 64];
     for i in 0..64 {

@@ -167,14 +167,14 @@ impl Tell for Vect3 {
     }
 }
 
-// By the vector's line, which is the same; so the point's.
+// By the vector's line, which is the same.
 impl Tell for UnitVect3 {
     fn tell<R: Print>(&self, rt: &R) -> io::Result<()> {
         self.to_vect3().tell(rt)
     }
 }
 
-// x, y and z.
+// x, y and z, by the vector's line.
 impl Tell for Coo3D {
     fn tell<R: Print>(&self, rt: &R) -> io::Result<()> {
         self.to_vect3().tell(rt)
