@@ -77,6 +77,14 @@ unfolding points_from
 back_from [] i qs e = subst (HandedBack []) (same_answer e) back_none
 back_from (p ∷ ps) i qs e = back_point p ps i qs (back_from ps (suc i)) (point_at i p) refl e
 
+-- as many as were given
+length_back : {ps qs : List Coo3D} → HandedBack ps qs → length qs ≡ length ps
+length_back back_none = refl
+length_back (back_more i e t) = ap suc (length_back t)
+
+pub points_many : (ps : List Coo3D) (i : ℕ) (qs : List Coo3D) → points_from i ps ≡ answered qs → length qs ≡ length ps
+points_many ps i qs e = length_back (back_from ps i qs e)
+
 pub points_back : (ps : List Coo3D) (n : ℕ) (qs : List Coo3D) → points_of ps n ≡ answered qs → HandedBack (take n ps) qs
 unfolding points_of
 points_back ps n qs e = back_from (take n ps) 0 qs (count_passed n _ qs e)

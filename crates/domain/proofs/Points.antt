@@ -3,10 +3,11 @@ use Prim.Native.Nat.{ℕ, ◌+◌, ◌≤◌, ◌<◌}
 use native.Mathlib.Numerals.{add-one}
 use native.Mathlib.Omega.{arith}
 use mathlib.Core.Path.{◌≡◌, refl, sym, ap, ◌∙◌}
-use mathlib.Core.Bool.{Bool, true, false, not}
+use mathlib.Core.Bool.{Bool, true, false, not, ◌&&◌}
 use mathlib.Core.List.{List, [], ◌∷◌, ◌++◌, append-nil}
 use lib.ListN.{length, take, drop, get_or, set}
 use Rattle.coo3d.specs.declared.Coo3D.{Coo3D}
+use Rattle.float.specs.Doubles.{is_finite}
 use Rattle.lists.proofs.Passing.{next_left, none_left, stored}
 use Rattle.refusal.specs.Answer.{Answer, answered, refused, refuse_if, and_then}
 use Rattle.refusal.proofs.Answers.{then_answered, then_assoc, then_same, never}
@@ -22,6 +23,11 @@ test_refused false i a n vs e = refl
 pub point_refused : (i : ℕ) (p : Coo3D) (n : ℕ) (vs : List ℕ) → refused n vs ≡ point_at i p → point_at i p ≡ refused 1 (i ∷ [])
 unfolding point_at
 point_refused i p = test_refused (in_domain p) i p
+
+-- one of its numbers is not finite
+pub not_finite : (i : ℕ) (p : Coo3D) → (is_finite p.x && is_finite p.y && is_finite p.z && is_finite p.lon && is_finite p.lat) ≡ false → refused 1 (i ∷ []) ≡ point_at i p
+unfolding point_at in_domain
+not_finite i p h = rw h
 
 -- ---- the loop: the points from i on are still to be checked, and those before it are in `out`
 

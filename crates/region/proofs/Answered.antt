@@ -1,17 +1,30 @@
 -- Laws of `Builds`, for calls that answer a region beside an outcome and for their callers.
+use mathlib.Core.Bool.{false}
 use mathlib.Core.Path.{◌≡◌, refl, subst, ap, ◌∙◌}
 use Rattle.std.specs.declared.result.Result.{Result}
 use Rattle.std.specs.declared.result.Result.TheVariants.{Ok, Err}
 use Rattle.std.specs.Prelude.{⊤}
 use Rattle.refusal.specs.declared.Cause.{Cause}
-use Rattle.refusal.specs.Answer.{Answer, answered, outcome_of}
-use Rattle.refusal.proofs.Answers.{never}
+use Rattle.refusal.specs.Answer.{Answer, answered, refused_for, outcome_of}
+use Rattle.refusal.proofs.Answers.{never, same_answer}
 use Rattle.region.specs.declared.Built.{Built}
-use Rattle.region.specs.View.{View, view_of}
+use Rattle.region.specs.View.{View, view_of, empty}
 use Rattle.region.specs.Region.{Builds}
 
 pub builds_done : (b : Built) (v : View) → b.outcome ≡ Ok tt → view_of b.region ≡ v → Builds b (answered v)
 builds_done b v e w = record { outcome = rw e; view = w }
+
+-- an outcome beside a region that together answer a view
+pub builds_told : (b : Built) (v : View) → outcome_of b.outcome (view_of b.region) ≡ answered v → Builds b (answered v)
+builds_told b v e = let t = go b.outcome (view_of b.region) e in record { outcome = t.0; view = t.1 }
+  where
+    go : (o : Result ⊤ Cause) (w : View) → outcome_of o w ≡ answered v → (outcome_of o v ≡ answered v) × (w ≡ v)
+    go (Ok tt) w h = (refl, same_answer h)
+    go (Err cause) w h = never h
+
+-- a refusal beside the empty region
+pub builds_not : (b : Built) (cause : Cause) → b.outcome ≡ Err cause → view_of b.region ≡ empty false → Builds b (refused_for cause)
+builds_not b cause e w = record { outcome = rw e; view = w }
 
 pub builds_same : (b : Built) (x y : Answer View) → x ≡ y → Builds b x → Builds b y
 builds_same b x y e h = subst (Builds b) e h

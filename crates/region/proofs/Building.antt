@@ -26,8 +26,9 @@ use Rattle.region.specs.declared.Region.{Region}
 use Rattle.region.specs.declared.ContainsSouthPoleMethod.{ContainsSouthPoleMethod}
 use Rattle.region.specs.Edges.{normal_of, crosses_seam}
 use Rattle.region.specs.Poles.{rule_flag, fixed_rule}
-use Rattle.region.specs.View.{View, view_of, with_flag, seams_of, normals_of, made, nowhere}
-use Rattle.region.specs.Region.{rule_at, flag_of, build_of, region_by, Builds}
+use Rattle.region.specs.View.{View, view_of, empty, with_flag, seams_of, normals_of, made, nowhere}
+use Rattle.region.specs.Region.{rule_at, flag_of, drawn_of, build_of, region_by, Builds}
+use Rattle.region.proofs.Answered.{builds_told}
 use Rattle.region.proofs.Corners.{normals_start, normals_turn, normals_done}
 use Rattle.region.proofs.Seam.{Counting, counting_ends, seams_start, seams_turn}
 use Rattle.region.proofs.Rules.{some}
@@ -133,7 +134,7 @@ seams_next {corners} {count} {k} {n} {flag} {r} {from} inv seams full few below 
 
 -- ---- the answers
 
-passed_on : (l : List Coo3D) (n : ℕ) (rule : ContainsSouthPoleMethod) (k : ℕ) (vs : List ℕ) → refused k vs ≡ points_of l n → refused k vs ≡ build_of l n rule
+pub passed_on : (l : List Coo3D) (n : ℕ) (rule : ContainsSouthPoleMethod) (k : ℕ) (vs : List ℕ) → refused k vs ≡ points_of l n → refused k vs ≡ build_of l n rule
 unfolding build_of
 passed_on l n rule k vs e = rw (sym e)
 
@@ -154,6 +155,14 @@ fixed_is l n flag cs e some few = rw (sym e, flag_fixed (made cs false) flag som
 abbrev pub seamed : Region → ℕ → Region
 seamed r n = record { vertices = r.vertices; cross_products = r.cross_products; count = r.count; contains_south_pole = r.contains_south_pole; seam_count = n }
 
+-- a region that is empty stays so whatever its corners become
+pub still_empty : (r : Region) (cs : List Coo3D) → view_of r ≡ empty false → view_of (record { vertices = cs; cross_products = r.cross_products; count = r.count; contains_south_pole = r.contains_south_pole; seam_count = r.seam_count }) ≡ empty false
+still_empty r cs e =
+    let n : r.count ≡ 0 = ap (λ (v : View). v.count) e in
+    let f : r.contains_south_pole ≡ false = ap (λ (v : View). v.flag) e in
+    let m : r.seam_count ≡ 0 = ap (λ (v : View). v.seam_count) e in
+    rw (n, f, m)
+
 pub drawn : {corners : List Coo3D} {count k n : ℕ} {flag : Bool} {r : Region} {from : Coo3D} → Working corners count flag r from k → Counting (take count corners) n from k
     → length corners ≡ 64 → count ≤ 64 → k ≡ count → view_of (seamed r n) ≡ made (take count corners) flag
 drawn {corners} {count} {k} {n} {flag} {r} {from} second seams full few passed =
@@ -163,17 +172,31 @@ drawn {corners} {count} {k} {n} {flag} {r} {from} second seams full few passed =
     let crossings : n ≡ seams_of (take count corners) = counting_ends seams (rw len (omega (arith, passed))) in
     rw (second.counted, second.same, second.flagged, normals, crossings, len)
 
-pub ends : {points : List Coo3D} {count i : ℕ} {flag : Bool} {r : Region} (r' : Region) → Checking points count flag r i → length points ≡ 64 → (0 < count) × (count ≤ 64) → i ≡ count
-    → view_of r' ≡ made (take r.count r.vertices) r.contains_south_pole → Builds (record { region = r'; outcome = (Ok tt) }) (build_of points count (fixed_rule flag))
-ends {points} {count} {i} {flag} {r} r' first full range passed view =
+-- what `draw_edges` answers: for a count that it takes, and for one that it refuses
+pub drawn_is : (r : Region) {w : View} → (0 < r.count) × (r.count ≤ 64) → w ≡ made (take r.count r.vertices) r.contains_south_pole → answered w ≡ drawn_of (view_of r)
+unfolding drawn_of
+drawn_is r n e = ap answered e ∙ sym (count_in r.count _ n)
+
+pub undrawn : (r : Region) {k : ℕ} {vs : List ℕ} → refused k vs ≡ with_count {A = ⊤} r.count (answered tt) → refused k vs ≡ drawn_of (view_of r)
+unfolding drawn_of
+undrawn r e = count_refused r.count tt _ e
+
+-- corners that were taken, as a region has them, and then what they give is worked out
+pub finished : (points : List Coo3D) {count : ℕ} {flag : Bool} (r : Region) {r' : Region} {o : Result ⊤ Cause} → answered (take count r.vertices) ≡ points_of points count → length (take count r.vertices) ≡ count
+    → (0 < count) × (count ≤ 64) → r.count ≡ count → r.contains_south_pole ≡ flag → outcome_of o (view_of r') ≡ drawn_of (view_of r) → Builds (record { region = r'; outcome = o }) (build_of points count (fixed_rule flag))
+unfolding drawn_of
+finished points {count} {flag} r {r'} {o} taken len range counted flagged told =
     let cs = take count r.vertices in
+    let built = fixed_is points count flag cs taken (λ (z : length cs ≡ 0). some range.0 (sym len ∙ z)) (rw len range.1) in
+    let as_made : outcome_of o (view_of r') ≡ answered (made cs flag) = told ∙ rw (counted, flagged) (count_in count _ range) in
+    subst (Builds (record { region = r'; outcome = o })) built (builds_told (record { region = r'; outcome = o }) (made cs flag) as_made)
+
+pub ends : {points : List Coo3D} {count i : ℕ} {flag : Bool} {r : Region} {r' : Region} {o : Result ⊤ Cause} → Checking points count flag r i → length points ≡ 64 → (0 < count) × (count ≤ 64) → i ≡ count
+    → outcome_of o (view_of r') ≡ drawn_of (view_of r) → Builds (record { region = r'; outcome = o }) (build_of points count (fixed_rule flag))
+ends {points = points} {count = count} {r = r} first full range passed told =
     let few = range.1 in
     let corners = first.corners in
-    let long : count ≤ length r.vertices = omega (arith, few, corners) in
-    let len : length cs ≡ count = length-take-le count r.vertices long in
-    let built = fixed_is points count flag cs (checked first full range passed) (λ (z : length cs ≡ 0). some range.0 (sym len ∙ z)) (rw len few) in
-    let as_made : view_of r' ≡ made cs flag = view ∙ ap (λ (n : ℕ). made (take n r.vertices) r.contains_south_pole) first.counted ∙ ap (made cs) first.flagged in
-    subst (Builds (record { region = r'; outcome = (Ok tt) })) built (record { outcome = refl; view = as_made })
+    finished points r (checked first full range passed) (length-take-le count r.vertices (omega (arith, few, corners))) range first.counted first.flagged told
 
 -- ---- by a rule: what was built by a fixed one, with the flag that the rule sets
 

@@ -32,6 +32,10 @@ rule_at index (ControlPointOut p) = and_then (point_at index p) (λ q. answered 
 unfoldable pub flag_of : View → ContainsSouthPoleMethod → Answer Bool
 flag_of v rule = with_count v.count (and_then (rule_at v.count rule) (λ checked. answered (rule_flag checked v)))
 
+-- the corners and the flag as they are, with the normals and the seam count that they give
+unfoldable pub drawn_of : View → Answer View
+drawn_of v = with_count v.count (answered (made v.corners v.flag))
+
 -- the corners are checked (2, 3, 1), then the rule's control point; the rule sets the flag
 unfoldable pub build_of : List Coo3D → ℕ → ContainsSouthPoleMethod → Answer View
 build_of points count rule = and_then (points_of points count) (λ cs. and_then (flag_of (made cs false) rule) (λ flag. answered (made cs flag)))

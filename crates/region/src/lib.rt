@@ -1,13 +1,13 @@
 // Regions: polygons on the sphere with a pole flag, how they are built, and which points they contain. Upstream: `Polygon` in src/sph_geom/mod.rs.
 #![tactic(auto)]
 
-ghost use Rattle.std.specs.Prelude.{◌≡◌, false, ◌≤◌, ◌<◌, length, take};
+ghost use Rattle.std.specs.Prelude.{◌≡◌, false, ◌≤◌, ◌<◌, length, take, OnErr};
 ghost use Rattle.std.specs.Iterator.{YieldsFirst, item_count};
-ghost use Rattle.refusal.specs.Answer.{answered, refused_for, answer_of};
+ghost use Rattle.refusal.specs.Answer.{answered, refused_for, answer_of, outcome_of};
 ghost use Rattle.domain.specs.Checks.{point_at};
 ghost use Rattle.region.specs.Edges.{edge, normal_of, in_lon_range, crosses_seam, is_in_range, is_counted};
 ghost use Rattle.region.specs.View.{view_of, empty, made, odd_at, edges_of, edges_ahead};
-ghost use Rattle.region.specs.Region.{contains_of, seam_count_of, rule_at, flag_of, build_of, Builds};
+ghost use Rattle.region.specs.Region.{contains_of, seam_count_of, rule_at, flag_of, drawn_of, build_of, Builds};
 ghost use Rattle.region.specs.Poles.{step_of, basic_of, rule_flag, fixed_rule};
 
 use coo3d::{Coo3D, Vect3};
@@ -328,12 +328,13 @@ pub fn refused(cause: Cause) -> Built
     }
 }
 
-// The normals and the seam count, worked out of the corners in the region itself.
-fn draw_edges(region: &mut Region)
-    requires { (0 < region.old.count) × (region.old.count ≤ 64) }
-    ensures { view_of region.new ≡ made (take region.old.count region.old.vertices) region.old.contains_south_pole }
+// The normals and the seam count, worked out anew of the corners in the region itself: behind whatever put them there, as the build does, or a reader.
+pub fn draw_edges(region: &mut Region) -> Result<(), Cause>
+    ensures answer { outcome_of result (view_of region.new) ≡ drawn_of (view_of region.old) }
+    ensures left { OnErr result (region.new ≡ region.old) }
 {
     let count = region.count;
+    domain::check_count(count)?;
     let mut from = region.vertices[count - 1];
     let mut seam_count: usize = 0;
     for k in 0..count {
@@ -343,6 +344,7 @@ fn draw_edges(region: &mut Region)
         from = to;
     }
     region.seam_count = seam_count;
+    Ok(())
 }
 
 // A region of these corners with this flag. They are checked, and all is worked out, in the region itself, so that no array is copied on the way.
@@ -367,11 +369,8 @@ pub fn build_flagged(points: [Coo3D; 64], count: usize, flag: bool) -> Built
             Err(cause) => return refused(cause),
         }
     }
-    draw_edges(&mut region);
-    Built {
-        region,
-        outcome: Ok(()),
-    }
+    let outcome = draw_edges(&mut region);
+    Built { region, outcome }
 }
 
 // Upstream: `Polygon::new_custom_vec3`. The corners are an array beside a count: a call of the manual, since there is no heap.

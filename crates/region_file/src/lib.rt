@@ -1,10 +1,11 @@
 // The region file, edition 1: document 01, 'Region file'. Upstream has none.
 #![tactic(auto)]
 
-ghost use Rattle.std.specs.Prelude.{◌≡◌, true, ◌+◌, ◌*◌, ◌^◌, ◌≤◌, ◌<◌, length, take, drop};
+ghost use Rattle.std.specs.Prelude.{◌≡◌, true, false, ◌+◌, ◌*◌, ◌^◌, ◌≤◌, ◌<◌, length, take, drop, is_nan, [], ◌∷◌};
 ghost use Rattle.std.proofs.lemmas.List.Edits.{sets};
-ghost use Rattle.refusal.specs.Answer.{outcome_of, verdict, answer_of};
-ghost use Rattle.region.specs.View.{view_of};
+ghost use Rattle.refusal.specs.Answer.{answered, refuse_if, outcome_of, verdict, answer_of};
+ghost use Rattle.domain.specs.Checks.{point_at, points_from};
+ghost use Rattle.region.specs.View.{view_of, empty};
 ghost use Rattle.region.specs.Region.{Builds};
 ghost use Rattle.region_file.specs.Bytes.{number_at, bytes_of, double_at, corner_at, corners_at, double_bytes, corner_bytes};
 ghost use Rattle.region_file.specs.File.{file_length, trailer_of, read_of, trailer_bytes, write_of, output_of, with_flag_field};
@@ -113,6 +114,75 @@ pub fn read(file: &[u8]) -> Built
             region::build_flagged(corners, count, flag)
         }
     }
+}
+
+// The double whose bytes begin there, of the corner of that index. A NaN never passes the point check, and is refused before it is made: by `double_at` each
+// number would be a choice of two, which takes longer.
+fn number_at(s: &[u8], at: usize, index: usize) -> Result<f64, Cause>
+    requires { at + 8 ≤ length s.now }
+    ensures { answer_of result ≡ refuse_if (is_nan (double_at s.now at)) 1 (index ∷ []) (answered (double_at s.now at)) }
+{
+    let bits = u64::from_le_bytes(bytes_at(s, at));
+    if bits % 0x8000_0000_0000_0000 > 0x7FF0_0000_0000_0000 {
+        return Err(Cause::OutsideDomain(index));
+    }
+    Ok(float::from_bits(bits))
+}
+
+// The corner of that index, whose bytes begin there, as the point check hands it back.
+fn checked_corner_at(s: &[u8], at: usize, index: usize) -> Result<Coo3D, Cause>
+    requires { at + 40 ≤ length s.now }
+    ensures { answer_of result ≡ point_at index (corner_at s.now at) }
+{
+    let p = Coo3D {
+        x: number_at(s, at, index)?,
+        y: number_at(s, at + 8, index)?,
+        z: number_at(s, at + 16, index)?,
+        lon: number_at(s, at + 24, index)?,
+        lat: number_at(s, at + 32, index)?,
+    };
+    domain::check_point(p, index)
+}
+
+// All corners as the point check hands them back, each from its bytes to its place; a refusal has the lowest bad one's index.
+fn checked_corners_at(
+    corners: &mut [Coo3D; 64],
+    s: &[u8],
+    at: usize,
+    count: usize,
+) -> Result<(), Cause>
+    requires { (count ≤ 64) × (at + 40 * count ≤ length s.now) }
+    ensures { outcome_of result (take count corners.new) ≡ points_from 0 (corners_at s.now at count) }
+{
+    for i in 0..count {
+        corners[i] = checked_corner_at(s, at + 40 * i, i)?;
+    }
+    Ok(())
+}
+
+// Builds the file's region in an empty one. Its corners are counted once all have passed, so that a refusal leaves it empty.
+fn read_into(region: &mut Region, file: &[u8]) -> Result<(), Cause>
+    requires { view_of region.old ≡ empty false }
+    ensures { Builds (record { region = region.new; outcome = result }) (read_of file.now) }
+{
+    let Trailer { flag, count } = read_trailer(file)?;
+    let at = file.len() - file_length(count);
+    checked_corners_at(&mut region.vertices, file, at, count)?;
+    region.count = count;
+    region.contains_south_pole = flag;
+    region::draw_edges(region)
+}
+
+// Builds straight from the bytes, and answers what `read` does: there are no corners but the region's own.
+pub fn read_straight(file: &[u8]) -> Built
+    ensures { Builds result (read_of file.now) }
+{
+    let mut built = Built {
+        region: region::empty(),
+        outcome: Ok(()),
+    };
+    built.outcome = read_into(&mut built.region, file);
+    built
 }
 
 fn put_u32(s: &mut [u8], at: usize, n: u32)

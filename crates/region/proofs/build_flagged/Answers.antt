@@ -17,4 +17,4 @@ pub loop-i-preserved : goal.loop-i-preserved
 loop-i-preserved c = checking_good c.loop-i.invariant (search rules) c.in_default.ensures.few.1 c.loop-i-test.true _ (sym c.in-Ok.ensures)
 
 pub returns : goal.returns
-returns c = ends _ c.loop-i.invariant (search rules) c.in_default.ensures.few (search rules) c.draw_edges.ensures
+returns c = ends c.loop-i.invariant (search rules) c.in_default.ensures.few (search rules) c.draw_edges-outcome.ensures.answer
