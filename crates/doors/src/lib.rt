@@ -24,7 +24,7 @@ fn code(answer: Result<u32, Cause>) -> u32
 fn contains(file: &[u8], coo: Coo3D) -> Result<bool, Cause>
     ensures { answer_of result ≡ and_then (read_of file.now) (λ v. contains_of v coo) }
 {
-    let read = region_file::read(file);
+    let read = region_file::read_straight(file);
     read.outcome?;
     region::contains(read.region, coo)
 }
@@ -34,7 +34,7 @@ fn hold(file: &mut [u8], coo: Coo3D) -> Result<(), Cause>
     ensures answer { outcome_of result true ≡ verdict (held_of file.old coo) }
     ensures file_after { file.new ≡ held_file file.old coo }
 {
-    let read = region_file::read(file);
+    let read = region_file::read_straight(file);
     read.outcome?;
     let held = edits::hold(read.region, coo);
     held.outcome?;

@@ -8,6 +8,7 @@ use Rattle.marked_cases.proofs.Cases.{marked_cases}
 use Rattle.poles.proofs.Poles.{poles}
 use Rattle.region.proofs.Made.{build_made, seams_made}
 use Rattle.region_file.proofs.Made.{read_made}
+use Rattle.region_file.proofs.Readers.{readers_agree}
 use Rattle.region_file.proofs.RoundTrips.{read_written, write_read}
 use Rattle.root.proofs.Grow.{grows}
 use Rattle.root.proofs.Laws.{every_width}
@@ -26,6 +27,7 @@ promises =
       first_is_head = first_is_head;
       read_written = read_written;
       write_read = write_read;
+      readers_agree = readers_agree;
       edit_theorem = edit_theorem;
       build_made = build_made;
       read_made = read_made;

@@ -53,6 +53,10 @@ pub record Promises : Type 0 where
       → read_of (front ++ file_of v) ≡ build_of v.corners v.count (fixed_rule v.flag)
   -- Writing what was read gives the file's own bytes, without those in front.
   pub write_read : (s : List ℕ) (v : View) → are_bytes s ≡ true → read_of s ≡ answered v → file_of v ≡ drop (length s - file_length v.count) s
+  -- The two readers, the one that copies all corners out and the one that builds straight from the bytes, answer alike whatever the bytes: one outcome, and one region to every call.
+  pub readers_agree :
+      (s : List ℕ) (copied straight : Built) → Builds copied (read_of s) → Builds straight (read_of s)
+      → (copied.outcome ≡ straight.outcome) × (view_of copied.region ≡ view_of straight.region)
   -- For the region of any build that was not refused, and every list of edits, refused ones included: `Holds` says what holds along it.
   pub edit_theorem :
       (points : List Coo3D) (count : ℕ) (rule : ContainsSouthPoleMethod) (b : Built) → Builds b (build_of points count rule) → b.outcome ≡ Ok tt

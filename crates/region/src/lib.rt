@@ -196,7 +196,7 @@ fn basic(corners: &[Coo3D]) -> bool
     (float::abs(sum_delta_lon) > float::PI) & (gravity_center_z < 0.0)
 }
 
-// The edges are passed here and not in a helper by value, which would copy the region. The normals are copied once an edge is in range, and a point in no
+// The edges are passed here and not in a helper that takes the region by value, which would copy it. The normals are copied once an edge is in range, and a point in no
 // edge's range needs none of them.
 // By `edges`, or in one loop, 4 corners take a fifth more instructions; by `Edge::is_counted`, 64 corners take a twentieth more.
 pub fn contains(r: Region, coo: Coo3D) -> Result<bool, Cause>
@@ -333,8 +333,8 @@ pub fn draw_edges(region: &mut Region) -> Result<(), Cause>
     ensures answer { outcome_of result (view_of region.new) ≡ drawn_of (view_of region.old) }
     ensures left { OnErr result (region.new ≡ region.old) }
 {
+    domain::check_count(region.count)?;
     let count = region.count;
-    domain::check_count(count)?;
     let mut from = region.vertices[count - 1];
     let mut seam_count: usize = 0;
     for k in 0..count {

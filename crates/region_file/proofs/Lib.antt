@@ -4,5 +4,6 @@ pub mod Reading
 pub mod Writing
 pub mod Back
 pub mod RoundTrips
+pub mod Readers
 pub mod Made
 pub mod Refusing

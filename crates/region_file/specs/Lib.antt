@@ -1,3 +1,4 @@
 pub mod Bytes
 pub mod File
 pub mod RoundTrips
+pub mod Readers

@@ -21,8 +21,8 @@ pub struct Trailer {
     pub count: usize,
 }
 
-// `N` bytes, copied out. Bytes are taken, here and below, by the file and a place in it, as document 01 and the definitions have a field: of a slice cut out
-// beforehand, each contract would ask for its length in place of the room behind the place, and of an array the caller would.
+// `N` bytes, copied out. Here and below bytes are named by the file and a place in it, as the definitions name them: of a slice that was cut out first, each contract
+// would ask for a length, where it asks for room behind the place.
 fn bytes_at<const N: usize>(s: &[u8], at: usize) -> [u8; N]
     requires { at + N ≤ length s.now }
     ensures { result ≡ take N (drop at s.now) }
@@ -160,7 +160,8 @@ fn checked_corners_at(
     Ok(())
 }
 
-// Builds the file's region in an empty one. Its corners are counted once all have passed, so that a refusal leaves it empty.
+// Builds the file's region in an empty one. Its corners are counted once all have passed, so that a refusal leaves it empty. The normals and the seam count are taken in a
+// pass of their own, by what a build calls.
 fn read_into(region: &mut Region, file: &[u8]) -> Result<(), Cause>
     requires { view_of region.old ≡ empty false }
     ensures { Builds (record { region = region.new; outcome = result }) (read_of file.now) }
@@ -173,7 +174,9 @@ fn read_into(region: &mut Region, file: &[u8]) -> Result<(), Cause>
     region::draw_edges(region)
 }
 
-// Builds straight from the bytes, and answers what `read` does: there are no corners but the region's own.
+// Builds straight from the bytes, and answers what `read` does: there are no corners but the region's own. Inlined, since its region is then made in the place that the
+// caller has for the answer, and not copied there.
+#[inline(always)]
 pub fn read_straight(file: &[u8]) -> Built
     ensures { Builds result (read_of file.now) }
 {
