@@ -181,7 +181,7 @@ fn answer_one(call: Call, request: &[u64], kept: &mut Kept, answer: &mut Vec<u64
             answer.push(region_file::write(region(kept)?, &mut output)?);
             answer.extend(words_of(&output));
         }
-        Call::ReadFile => {
+        Call::ReadFile | Call::ReadStraight => {
             let (file, _) = bytes_and_rest(request);
             kept.region = Ok(Region::read(region_file::read(&file)?));
         }

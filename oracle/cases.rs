@@ -58,7 +58,7 @@ impl Kept {
             }
             Call::RegionValue => *self = handed_in(request[0], &request[2..]),
             Call::SeamedValue => *self = handed_in(request[0], &request[3..]),
-            Call::ReadFile => {
+            Call::ReadFile | Call::ReadStraight => {
                 let (file, _) = bytes_and_rest(request);
                 *self = Kept::read(&file).unwrap_or_default();
             }

@@ -328,6 +328,7 @@ fn compare(requests: &str, a: &str, b: &str) -> Result<bool, String> {
                 | Call::RangeCount => region.print("the region kept"),
                 Call::Build
                 | Call::ReadFile
+                | Call::ReadStraight
                 | Call::DoorContains
                 | Call::DoorHold
                 | Call::Root
@@ -351,6 +352,7 @@ fn compare(requests: &str, a: &str, b: &str) -> Result<bool, String> {
             Call::ZoneNew if outcome == status::DONE => zone.set(row, &request),
             Call::Build
             | Call::ReadFile
+            | Call::ReadStraight
             | Call::RegionValue
             | Call::SeamedValue
             | Call::CostliestOutline

@@ -19,7 +19,7 @@ pub const RAISED_NORTH: f64 = HALF_PI + 1e-15;
 pub const SMALLEST: f64 = f64::from_bits(1);
 pub const LARGEST_SUBNORMAL: f64 = f64::from_bits((1 << 52) - 1);
 
-const NANS: [u64; 8] = [
+pub const NANS: [u64; 8] = [
     0x7FF8_0000_0000_0000, // quiet
     0xFFF8_0000_0000_0000, // negative
     0x7FF0_0000_0000_0001, // signalling
@@ -138,10 +138,12 @@ impl Draw {
     }
 
     pub fn nan(&mut self) -> f64 {
-        let bits = if self.percent(70) {
-            self.pick(&NANS)
-        } else {
-            self.word() | 0x7FF0_0000_0000_0001
+        // A payload of one bit, and any.
+        let bit = 1 << self.below(52);
+        let bits = match self.below(10) {
+            0..=5 => self.pick(&NANS),
+            6 | 7 => self.pick(&[0, 1 << 63]) | 0x7FF0_0000_0000_0000 | bit,
+            _ => self.word() | 0x7FF0_0000_0000_0000 | bit,
         };
         f64::from_bits(bits)
     }

@@ -1,10 +1,10 @@
 //! The region files that generate makes, and the outputs that it lends to a write.
 
-use stream::{file_length, EDITION, MOST_GIVEN, MOST_POINTS};
+use stream::{file_length, Interval, EDITION, MOST_GIVEN, MOST_POINTS, POINT_BOUNDS, POINT_WORDS};
 
 use crate::draw::{Class, Draw};
 use crate::edges::{Kept, Point};
-use crate::points::{damage, CountShare};
+use crate::points::{good_points, CountShare};
 use crate::regions::outline;
 
 /// As many corners as there is room for.
@@ -24,9 +24,9 @@ const FILE_SHARES: [CountShare; 9] = [
 
 /// Most refusals of a file need a damage of their own, so there are more of them.
 const FILE_CLASS_SHARES: [(Class, u64); 4] = [
-    (Class::Good, 33),
-    (Class::Borderline, 22),
-    (Class::Damaged, 35),
+    (Class::Good, 27),
+    (Class::Borderline, 20),
+    (Class::Damaged, 43),
     (Class::Raw, 10),
 ];
 
@@ -40,14 +40,19 @@ enum Front {
     Few,
     /// As many as one corner has, or a few of them.
     Corners,
+    Hundreds,
+    /// A region file, or the end of one, so that a trailer ends in front of corner 0.
+    File,
     /// So many that the file just has room.
     Most,
 }
 
-const FRONT_SHARES: [(Front, u64); 4] = [
-    (Front::None, 55),
-    (Front::Few, 28),
-    (Front::Corners, 15),
+const FRONT_SHARES: [(Front, u64); 6] = [
+    (Front::None, 48),
+    (Front::Few, 22),
+    (Front::Corners, 10),
+    (Front::Hundreds, 8),
+    (Front::File, 10),
     (Front::Most, 2),
 ];
 
@@ -66,39 +71,44 @@ enum Harm {
 }
 
 const HARM_SHARES: [(Harm, u64); 7] = [
-    (Harm::Edition, 12),
-    (Harm::Flag, 11),
-    (Harm::Count, 19),
-    (Harm::Distance, 16),
-    (Harm::Order, 4),
-    (Harm::Corners, 24),
-    (Harm::Length, 14),
+    (Harm::Edition, 10),
+    (Harm::Flag, 10),
+    (Harm::Count, 15),
+    (Harm::Distance, 13),
+    (Harm::Order, 3),
+    (Harm::Corners, 36),
+    (Harm::Length, 13),
 ];
 
 /// How many things are wrong at once: which of them is told shows the order of the tests.
 const HARM_COUNT_SHARES: [(u64, u64); 3] = [(1, 50), (2, 35), (3, 15)];
 
 /// A file before it is bytes.
-struct Draft {
-    front: Vec<u8>,
-    corners: Vec<Point>,
+#[derive(Clone)]
+pub struct Draft {
+    pub front: Vec<u8>,
+    pub corners: Vec<Point>,
     /// Edition, flag, count and distance.
-    trailer: [u32; 4],
+    pub trailer: [u32; 4],
 }
 
 impl Draft {
     fn of(draw: &mut Draw, corners: Vec<Point>) -> Self {
-        let length = file_length(corners.len());
-        let front = front(draw, MOST_GIVEN - length as u64);
+        let front = front(draw, MOST_GIVEN as usize - file_length(corners.len()));
         let flag = draw.below(2) as u32;
+        Draft::right(front, corners, flag)
+    }
+
+    pub fn right(front: Vec<u8>, corners: Vec<Point>, flag: u32) -> Self {
+        let count = corners.len();
         Draft {
             front,
-            trailer: [EDITION, flag, corners.len() as u32, length as u32],
             corners,
+            trailer: [EDITION, flag, count as u32, file_length(count) as u32],
         }
     }
 
-    fn bytes(&self) -> Vec<u8> {
+    pub fn bytes(&self) -> Vec<u8> {
         let corners = self.corners.iter().flatten();
         let corners = corners.flat_map(|field| field.to_bits().to_le_bytes());
         let trailer = self.trailer.into_iter().flat_map(u32::to_le_bytes);
@@ -123,7 +133,7 @@ impl Draft {
                 3 => self.trailer = self.trailer.map(u32::swap_bytes),
                 at => self.trailer.swap(at, at + 1),
             },
-            Harm::Corners => damage(draw, &mut self.corners),
+            Harm::Corners => harm_corners(draw, &mut self.corners),
             // Of the bytes, later.
             Harm::Length => {}
         }
@@ -165,16 +175,61 @@ fn wrong(draw: &mut Draw, right: u32, others: &[u32]) -> u32 {
     }
 }
 
+/// Puts a value into one field, or into a few: each of the first corner, of the last or of any. Of
+/// several corners outside the domain the lowest is told.
+fn harm_corners(draw: &mut Draw, corners: &mut [Point]) {
+    let Some(last) = corners.len().checked_sub(1) else {
+        return;
+    };
+    let fields = if draw.percent(60) {
+        1
+    } else {
+        draw.whole(2, 5)
+    };
+    for _ in 0..fields {
+        let corner = match draw.below(4) {
+            0 => 0,
+            1 => last,
+            _ => draw.index(corners.len()),
+        };
+        let field = draw.index(POINT_WORDS);
+        let value = &mut corners[corner][field];
+        *value = other(draw, *value, POINT_BOUNDS[field]);
+    }
+}
+
+/// Mostly one outside the bounds; some are within.
+fn other(draw: &mut Draw, value: f64, bounds: Interval) -> f64 {
+    let (least, greatest) = bounds;
+    match draw.below(10) {
+        0..=3 => draw.bad(bounds),
+        4 | 5 => draw.nan(),
+        6 => f64::from_bits(value.to_bits() ^ 1 << draw.below(64)),
+        7 => draw.raw(),
+        _ => draw.near_one_of(&[least, greatest, greatest, 0.0, -0.0, -0.0]),
+    }
+}
+
 /// Bytes of a maker's own, at most so many.
-fn front(draw: &mut Draw, most: u64) -> Vec<u8> {
+fn front(draw: &mut Draw, most: usize) -> Vec<u8> {
     let corner = (file_length(1) - file_length(0)) as u64;
     let length = match draw.by_share(&FRONT_SHARES) {
         Front::None => 0,
         Front::Few => draw.whole(1, 48),
         Front::Corners => draw.whole(1, 3) * corner,
+        Front::Hundreds => draw.whole(49, 400),
+        Front::File => {
+            let count = draw.whole(1, 3);
+            let corners = good_points(draw, count);
+            let flag = draw.below(2) as u32;
+            let bytes = Draft::right(Vec::new(), corners, flag).bytes();
+            let cut = draw.index(bytes.len() - file_length(0) + 1);
+            let from = draw.pick(&[0, cut]).max(bytes.len().saturating_sub(most));
+            return bytes[from..].to_vec();
+        }
         Front::Most => MOST_GIVEN,
     };
-    any_bytes(draw, length.min(most))
+    any_bytes(draw, length.min(most as u64))
 }
 
 /// Random ones; but in two cases of three all alike, so that they would do for corners.
@@ -185,7 +240,7 @@ fn any_bytes(draw: &mut Draw, length: u64) -> Vec<u8> {
         .collect()
 }
 
-/// Bytes for a read or a door.
+/// Bytes for the readers of a file.
 pub fn file(draw: &mut Draw, kept: &Kept) -> Vec<u8> {
     let class = draw.by_share(&FILE_CLASS_SHARES);
     let corners = if draw.percent(KEPT_SHARE) {
@@ -208,7 +263,7 @@ pub fn file(draw: &mut Draw, kept: &Kept) -> Vec<u8> {
             let mut bytes = draft.bytes();
             if length_too {
                 let [.., distance] = draft.trailer;
-                harm_length(draw, &mut bytes, distance as usize);
+                harm_length(draw, &mut bytes, distance as usize, draft.front.len());
             }
             bytes
         }
@@ -224,13 +279,15 @@ pub fn file(draw: &mut Draw, kept: &Kept) -> Vec<u8> {
 }
 
 /// Takes bytes away at either end, or adds some behind.
-fn harm_length(draw: &mut Draw, bytes: &mut Vec<u8>, distance: usize) {
+fn harm_length(draw: &mut Draw, bytes: &mut Vec<u8>, distance: usize, front: usize) {
     let length = bytes.len();
-    let left = match draw.below(4) {
-        0 => draw.index(18),
+    let left = match draw.below(9) {
+        0 | 1 => draw.index(18),
         // Next to what the trailer says.
-        1 => distance.saturating_sub(draw.pick(&[0, 1, 2, 8, 16, 40])),
-        2 => length.saturating_sub(draw.index(48)),
+        2 | 3 => distance.saturating_sub(draw.pick(&[0, 1, 2, 8, 16, 40])),
+        4 | 5 => length.saturating_sub(draw.index(48)),
+        // A maker's bytes alone, where the end is cut off.
+        6 => front,
         _ => draw.index(length + 1),
     }
     .min(length);

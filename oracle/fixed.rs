@@ -1,6 +1,6 @@
 //! The requests of the fixed list that are not drawn: every outline that costs most, the number
-//! of edges in range where a longitude, a count or a point may be taken wrongly, and whole roots
-//! round squares.
+//! of edges in range where a longitude, a count or a point may be taken wrongly, whole roots round
+//! squares, and damaged files (fixed_files.rs).
 
 use std::io::{self, Write};
 
@@ -8,10 +8,10 @@ use stream::{outline, write_word, Call, MOST_POINTS, POINT_WORDS, TWO_PI};
 
 use crate::edges::{Kept, Point};
 use crate::points::point_at;
-use crate::{write, write_all};
+use crate::{fixed_files, write, write_all};
 
 /// Longitude and latitude in degrees.
-type Place = (f64, f64);
+pub type Place = (f64, f64);
 
 /// The corners of a region to build, and where the number is asked for.
 const CASES: [(&[Place], &[Place]); 7] = [
@@ -94,6 +94,7 @@ pub fn requests<W: Write>(out: &mut W) -> io::Result<()> {
         number(out, Call::WholeRoot)?;
         write_word(out, n)?;
     }
+    fixed_files::requests(out)?;
     out.flush()
 }
 
@@ -117,11 +118,11 @@ fn whole_roots() -> Vec<u64> {
     all
 }
 
-fn number<W: Write>(out: &mut W, call: Call) -> io::Result<()> {
+pub fn number<W: Write>(out: &mut W, call: Call) -> io::Result<()> {
     write_word(out, call as u64)
 }
 
-fn at(&(lon, lat): &Place) -> Point {
+pub fn at(&(lon, lat): &Place) -> Point {
     point_at(lon.to_radians(), lat.to_radians())
 }
 

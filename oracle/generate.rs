@@ -5,25 +5,28 @@
 //!
 //! Of a hundred requests outside a list (`CALL_SHARES`)
 //!
-//! - 12 are builds, 8 files to read, 6 region values, 4 of them with a seam count, often a wrong
-//!   one, and 2 outlines that cost most; after every second one the region is asked for besides
-//!   (`REGION_SHARE`), after every fourth its seam count (`SEAM_SHARE`), after every eighth its file
-//!   (`WRITE_SHARE`), after an outline whether points are contained (`AFTER_OUTLINE`), and after
-//!   some a list of edits begins (`LIST_AFTER_BUILD`, `LIST_AFTER_FULL_BUILD`, `LIST_AFTER_READ`,
-//!   `LIST_AFTER_VALUE`, `LIST_AFTER_OUTLINE`), so that about six requests of ten stand in lists;
+//! - 14 are builds, 6 region values, 4 of them with a seam count, often a wrong one, and 2 outlines
+//!   that cost most; after every second one the region is asked for besides, after every fourth its
+//!   seam count, after every eighth its file (`AFTER_MAKING`), after an outline whether points are
+//!   contained (`AFTER_OUTLINE`), and after some a list of edits begins (`LIST_AFTER_BUILD`,
+//!   `LIST_AFTER_FULL_BUILD`, `LIST_AFTER_VALUE`, `LIST_AFTER_OUTLINE`), so that about six requests
+//!   of ten stand in lists;
+//! - 10 are files, 3 to read, 3 to read straight and 4 for the C doors, 2 contains and 2 hold; the
+//!   three that were not drawn are asked of the same file after it (`other_readers`), after each
+//!   read the region, its seam count and its file as `AFTER_READ` says, and after some a list of
+//!   edits begins (`LIST_AFTER_READ`);
 //! - 3 ask for the region's seam count, and 3 for its file;
-//! - 12 are C doors: 6 contains, 6 hold;
-//! - 9 ask whether a point is contained, 4 of them with the number of edges in range;
-//! - 10 are arcs: 4 first, 4 all, 2 is intersecting;
-//! - 4 are great circles;
-//! - 12 are parallels: 5 first, 5 all, 2 is intersecting;
-//! - 4 are roots, 4 whole roots, 4 new zones, 4 questions to the zone kept and 3 bounding cones.
+//! - 11 ask whether a point is contained, 5 of them with the number of edges in range;
+//! - 12 are arcs: 5 first, 5 all, 2 is intersecting;
+//! - 5 are great circles;
+//! - 14 are parallels: 6 first, 6 all, 2 is intersecting;
+//! - 4 are roots, 4 whole roots, 4 new zones, 5 questions to the zone kept and 3 bounding cones.
 //!
 //! A list has 1 to 200 edits, whose shares stand in edits.rs. Of a hundred requests in it 40 are
 //! questions to the region (`QUESTION_SHARE`): 8 ask for the region, 4 for its seam count, 10
 //! whether a point is contained, 4 of them with the number of edges in range, 14 are arcs, great
-//! circles and parallels, 4 ask for its file; and of a thousand 4 are files to read
-//! (`QUESTION_SHARES`).
+//! circles and parallels, 4 ask for its file; and of a thousand 4 are files to read, each with the
+//! other three that are asked of a file (`QUESTION_SHARES`).
 //!
 //! In a run of lists each starts from a build that is not refused or, 18 of a hundred, from a value
 //! or, 15, from a file that is not refused or, 7, from an outline that costs most
@@ -51,6 +54,7 @@ mod edges;
 mod edits;
 mod files;
 mod fixed;
+mod fixed_files;
 mod points;
 mod queries;
 mod regions;
@@ -67,7 +71,7 @@ use points::{point_count, points, CountShare};
 use regions::{build, outline_count, region_value, Build};
 use stream::{
     outline, within, words_of, write_word, zone_bounds_hold, Call, EDITS, HALF_PI, MOST_POINTS,
-    POINT_BOUNDS, TWO_PI,
+    POINT_BOUNDS, READERS, TWO_PI,
 };
 
 const CLASS_SHARES: [(Class, u64); 4] = [
@@ -77,29 +81,30 @@ const CLASS_SHARES: [(Class, u64); 4] = [
     (Class::Raw, 10),
 ];
 
-const CALL_SHARES: [(Call, u64); 23] = [
-    (Call::Build, 12),
+const CALL_SHARES: [(Call, u64); 24] = [
+    (Call::Build, 14),
     (Call::RegionValue, 2),
     (Call::SeamedValue, 4),
     (Call::CostliestOutline, 2),
     (Call::SeamCount, 3),
-    (Call::Contains, 5),
-    (Call::RangeCount, 4),
-    (Call::ArcFirst, 4),
-    (Call::ArcAll, 4),
+    (Call::Contains, 6),
+    (Call::RangeCount, 5),
+    (Call::ArcFirst, 5),
+    (Call::ArcAll, 5),
     (Call::IsIntersectingArc, 2),
-    (Call::GreatCircleAll, 4),
-    (Call::ParallelFirst, 5),
-    (Call::ParallelAll, 5),
+    (Call::GreatCircleAll, 5),
+    (Call::ParallelFirst, 6),
+    (Call::ParallelAll, 6),
     (Call::IsIntersectingParallel, 2),
     (Call::WriteFile, 3),
-    (Call::ReadFile, 8),
-    (Call::DoorContains, 6),
-    (Call::DoorHold, 6),
+    (Call::ReadFile, 3),
+    (Call::ReadStraight, 3),
+    (Call::DoorContains, 2),
+    (Call::DoorHold, 2),
     (Call::Root, 4),
     (Call::WholeRoot, 4),
     (Call::ZoneNew, 4),
-    (Call::ZoneRest, 4),
+    (Call::ZoneRest, 5),
     (Call::BoundingCone, 3),
 ];
 
@@ -120,13 +125,19 @@ const FIRST_CALLS: [Call; 13] = [
     Call::ZoneRest,
 ];
 
-/// Of a hundred builds, files read, region values and outlines after how many the region is asked
-/// for.
-const REGION_SHARE: u64 = 50;
+/// Of a hundred builds, region values and outlines after how many each of these is asked.
+const AFTER_MAKING: [(Call, u64); 3] = [
+    (Call::Region, 50),
+    (Call::WriteFile, 12),
+    (Call::SeamCount, 25),
+];
 
-/// The same of the region's file, and of its seam count.
-const WRITE_SHARE: u64 = 12;
-const SEAM_SHARE: u64 = 25;
+/// The same of files read, also where that is refused.
+const AFTER_READ: [(Call, u64); 3] = [
+    (Call::Region, 100),
+    (Call::WriteFile, 12),
+    (Call::SeamCount, 50),
+];
 
 /// Of a hundred builds after how many a list of edits begins.
 const LIST_AFTER_BUILD: u64 = 12;
@@ -176,11 +187,12 @@ const QUESTION_SHARES: [(Call, u64); 13] = [
 // A run of lists of edits has its own shares.
 
 /// Of a hundred lists how many start from what.
-const START_SHARES: [(Call, u64); 5] = [
+const START_SHARES: [(Call, u64); 6] = [
     (Call::Build, 60),
     (Call::RegionValue, 3),
     (Call::SeamedValue, 15),
-    (Call::ReadFile, 15),
+    (Call::ReadFile, 8),
+    (Call::ReadStraight, 7),
     (Call::CostliestOutline, 7),
 ];
 
@@ -447,6 +459,8 @@ struct Run {
     region: Kept,
     /// The point of the outline that the region kept began as, where it was one that costs most.
     own_point: Option<Point>,
+    /// What the readers of a file are asked of.
+    file: Vec<u8>,
 }
 
 impl Run {
@@ -459,6 +473,7 @@ impl Run {
             zone: [1.0, -0.5, 2.0, 0.5],
             region: Kept::built(points(&mut draw, Class::Good, 4)),
             own_point: None,
+            file: Vec::new(),
             draw,
         }
     }
@@ -468,19 +483,23 @@ impl Run {
         let mut due: Vec<Call> = FIRST_CALLS.into_iter().chain(EDITS).rev().collect();
         let mut list = List::empty();
         for _ in 0..count {
-            let draw = &mut self.draw;
             let call = match due.pop() {
                 Some(call) => call,
-                None if list.left == 0 => draw.by_share(&CALL_SHARES),
-                None if draw.percent(QUESTION_SHARE) => draw.by_share(&QUESTION_SHARES),
-                None => list.edit(draw, &self.region),
+                None => {
+                    let call = self.drawn(&mut list);
+                    if let Some(others) = other_readers(call) {
+                        self.file = files::file(&mut self.draw, &self.region);
+                        due.extend(others.into_iter().rev());
+                    }
+                    call
+                }
             };
             self.request(call)?;
             let full = self.region.corners.len() as u64 >= MOST_POINTS - 1;
             let begins = match call {
                 Call::Build if full => LIST_AFTER_FULL_BUILD,
                 Call::Build => LIST_AFTER_BUILD,
-                Call::ReadFile => LIST_AFTER_READ,
+                Call::ReadFile | Call::ReadStraight => LIST_AFTER_READ,
                 Call::RegionValue | Call::SeamedValue => LIST_AFTER_VALUE,
                 Call::CostliestOutline => LIST_AFTER_OUTLINE,
                 _ => continue,
@@ -491,14 +510,30 @@ impl Run {
                     due.extend(draw.percent(share).then_some(question));
                 }
             }
-            due.extend(draw.percent(REGION_SHARE).then_some(Call::Region));
-            due.extend(draw.percent(WRITE_SHARE).then_some(Call::WriteFile));
-            due.extend(draw.percent(SEAM_SHARE).then_some(Call::SeamCount));
+            let after = match call {
+                Call::ReadFile | Call::ReadStraight => AFTER_READ,
+                _ => AFTER_MAKING,
+            };
+            for (question, share) in after {
+                due.extend(draw.percent(share).then_some(question));
+            }
             if list.left == 0 && draw.percent(begins) {
                 list = List::mixed(draw);
             }
         }
         self.out.flush()
+    }
+
+    /// What is asked where nothing is due.
+    fn drawn(&mut self, list: &mut List) -> Call {
+        let draw = &mut self.draw;
+        if list.left == 0 {
+            draw.by_share(&CALL_SHARES)
+        } else if draw.percent(QUESTION_SHARE) {
+            draw.by_share(&QUESTION_SHARES)
+        } else {
+            list.edit(draw, &self.region)
+        }
     }
 
     /// That many requests for whole roots.
@@ -518,10 +553,13 @@ impl Run {
                     write_word(&mut self.out, Call::Build as u64)?;
                     self.write_build(build)?;
                 }
-                Call::ReadFile => {
-                    let file = self.file_not_refused();
-                    write_word(&mut self.out, Call::ReadFile as u64)?;
-                    self.write_read(&file)?;
+                reader if READERS.contains(&reader) => {
+                    self.file = self.file_not_refused();
+                    // The list goes on from what this one reads.
+                    for reader in other_readers(reader).into_iter().flatten().chain([reader]) {
+                        self.request(reader)?;
+                        self.request(Call::Region)?;
+                    }
                 }
                 Call::CostliestOutline => {
                     let count = self.draw.whole(1, MOST_POINTS);
@@ -572,6 +610,7 @@ impl Run {
             zone: zone_kept,
             region,
             own_point,
+            file,
         } = self;
         match call {
             Call::Build => {
@@ -618,14 +657,15 @@ impl Run {
                 write(out, &queries::parallel(draw, class, region))?;
             }
             Call::WriteFile => write_word(out, files::output(draw, region))?,
-            Call::ReadFile => {
-                let file = files::file(draw, region);
-                self.write_read(&file)?;
+            Call::ReadFile | Call::ReadStraight => {
+                write_bytes(out, file)?;
+                if let Some(kept) = Kept::read(file) {
+                    self.keep(kept);
+                }
             }
             Call::DoorContains | Call::DoorHold => {
-                let file = files::file(draw, region);
-                let read = Kept::read(&file);
-                write_bytes(out, &file)?;
+                let read = Kept::read(file);
+                write_bytes(out, file)?;
                 let aim = read.as_ref().unwrap_or(region);
                 write(out, &queries::point(draw, class, aim))?;
             }
@@ -680,14 +720,6 @@ impl Run {
         Ok(())
     }
 
-    fn write_read(&mut self, file: &[u8]) -> io::Result<()> {
-        write_bytes(&mut self.out, file)?;
-        if let Some(kept) = Kept::read(file) {
-            self.keep(kept);
-        }
-        Ok(())
-    }
-
     fn write_outline(&mut self, count: u64) -> io::Result<()> {
         write_word(&mut self.out, count)?;
         if let Some(kept) = Kept::outline(count) {
@@ -696,6 +728,14 @@ impl Run {
         }
         Ok(())
     }
+}
+
+/// Of a reader of files those that are asked of the same file after it, in turn.
+fn other_readers(call: Call) -> Option<[Call; 3]> {
+    let mut turn = READERS;
+    turn.rotate_left(READERS.iter().position(|&reader| reader == call)?);
+    let [_, others @ ..] = turn;
+    Some(others)
 }
 
 /// A number of bytes, and the bytes.

@@ -145,6 +145,7 @@ pub enum Call {
     RegionValue = 26,
     SeamCount = 27,
     SeamedValue = 28,
+    ReadStraight = 29,
     RangeCount = 30,
     CostliestOutline = 31,
     WholeRoot = 32,
@@ -159,6 +160,15 @@ pub const EDITS: [Call; 7] = [
     Call::Hold,
     Call::Rule,
     Call::HoldLent,
+];
+
+/// The calls that are asked of a region file. The doors stand between the two reads, so that, in turn
+/// from any one of the four on, each read comes first as often as the other.
+pub const READERS: [Call; 4] = [
+    Call::ReadFile,
+    Call::DoorContains,
+    Call::ReadStraight,
+    Call::DoorHold,
 ];
 
 /// A group of words in a request or an answer.
@@ -257,6 +267,8 @@ const ALL: &[Part] = &[
 ];
 
 const IS_INTERSECTING: &[Part] = &[Part::YesNo("is intersecting")];
+
+const FILE: &[Part] = &[Part::Lent("L"), Part::File("file")];
 
 const DOOR: &[Part] = &[
     Part::Lent("L"),
@@ -407,7 +419,7 @@ pub const KINDS: &[Kind] = &[
     Kind {
         call: Call::ReadFile,
         name: "read a region file",
-        request: &[Part::Lent("L"), Part::File("file")],
+        request: FILE,
         outcome: Outcome::Status,
         answer: &[],
     },
@@ -507,6 +519,13 @@ pub const KINDS: &[Kind] = &[
             Part::Points("corner", Entries::Most),
             Part::Vectors("normal", Entries::Most),
         ],
+        outcome: Outcome::Status,
+        answer: &[],
+    },
+    Kind {
+        call: Call::ReadStraight,
+        name: "read a region file straight",
+        request: FILE,
         outcome: Outcome::Status,
         answer: &[],
     },

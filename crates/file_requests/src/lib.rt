@@ -4,6 +4,7 @@
 
 use answers::Session;
 use coo3d::Coo3D;
+use region::Built;
 use stream::Result;
 
 // An output's bytes are AA before the call; a file's are read over them.
@@ -31,11 +32,21 @@ pub fn write(session: &mut Session<'_>) -> Result<()> {
     Ok(())
 }
 
-pub fn read(session: &mut Session<'_>) -> Result<()> {
+// By one of the two readers; a region that is not refused is kept.
+fn read_by<F: FnOnce(&[u8]) -> Built>(session: &mut Session<'_>, read: F) -> Result<()>
+    requires { F.IsAlwaysCallable read }
+{
     let mut space = space();
-    let file = get_file(session, &mut space)?;
-    let built = region_file::read(file);
+    let built = read(get_file(session, &mut space)?);
     session.keep(built.outcome, built.region)
+}
+
+pub fn read(session: &mut Session<'_>) -> Result<()> {
+    read_by(session, |file| region_file::read(file))
+}
+
+pub fn read_straight(session: &mut Session<'_>) -> Result<()> {
+    read_by(session, |file| region_file::read_straight(file))
 }
 
 pub fn door_contains(session: &mut Session<'_>) -> Result<()> {
