@@ -271,7 +271,7 @@ pub fn files(case: &Case, number: usize) -> (Vec<u8>, usize) {
     for i in 0..number {
         let mut corners = case.region.corners.clone();
         let k = 5 * (i % count);
-        corners[k..k + 5].copy_from_slice(&case.moved[k..k + 5]);
+        corners[k..k + 5].copy_from_slice(&case.moved[5 * i..5 * i + 5]);
         all.extend(corners.iter().flat_map(|x| x.to_le_bytes()));
         all.extend(
             [1, case.region.flag as u32, count as u32, len as u32]

@@ -19,7 +19,8 @@ exported!((corners: Doubles, m: usize, normals: Doubles, n: usize, flag: u64, en
 exported!((a: Doubles, m: usize, b: Doubles, n: usize): bench_idle_corners bench_build bench_cone bench_zone_questions);
 exported!((a: Doubles, m: usize): bench_root bench_root_chain bench_zone_new);
 exported!((numbers: *const u64, m: usize): bench_whole_root bench_whole_root_chain);
-exported!((files: *const u8, m: usize, len: usize, times: usize): bench_read);
+exported!((files: *const u8, m: usize, len: usize, times: usize): bench_read bench_read_straight);
+exported!((file: *const u8, m: usize, entries: Doubles, k: usize): bench_file_contains bench_file_contains_straight);
 exported!((count: usize, corner: usize, number: u64): bench_costliest_outline);
 
 extern "C" {
@@ -58,6 +59,39 @@ type OnArcs = unsafe extern "C" fn(
 type Repeated = unsafe extern "C" fn(Doubles, usize, Doubles, usize, u64, usize) -> u64;
 type OnTwo = unsafe extern "C" fn(Doubles, usize, Doubles, usize) -> u64;
 type OnOne = unsafe extern "C" fn(Doubles, usize) -> u64;
+type OnFiles = unsafe extern "C" fn(*const u8, usize, usize, usize) -> u64;
+type OnFile = unsafe extern "C" fn(*const u8, usize, Doubles, usize) -> u64;
+
+/// A reader by its loops.
+#[derive(Clone, Copy)]
+pub struct Reader {
+    pub name: &'static str,
+    reads: OnFiles,
+    contains: OnFile,
+}
+
+pub const STRAIGHT: Reader = Reader {
+    name: "straight",
+    reads: bench_read_straight,
+    contains: bench_file_contains_straight,
+};
+
+pub const COPYING: Reader = Reader {
+    name: "copying",
+    reads: bench_read,
+    contains: bench_file_contains,
+};
+
+impl Reader {
+    pub fn read(self, files: &[u8], len: usize, times: usize) -> u64 {
+        unsafe { (self.reads)(files.as_ptr(), files.len(), len, times) }
+    }
+
+    pub fn contains(self, file: &[u8], entries: &[f64]) -> u64 {
+        let (f, e) = (file, entries);
+        unsafe { (self.contains)(f.as_ptr(), f.len(), e.as_ptr(), e.len()) }
+    }
+}
 
 impl Region {
     pub fn entries(&self, f: OnEntries, entries: &[f64]) -> u64 {
@@ -145,10 +179,6 @@ pub fn numbers(f: unsafe extern "C" fn(*const u64, usize) -> u64, numbers: &[u64
 
 pub fn costliest_outline(count: usize, corner: usize, number: u64) -> u64 {
     unsafe { bench_costliest_outline(count, corner, number) }
-}
-
-pub fn read(files: &[u8], len: usize, times: usize) -> u64 {
-    unsafe { bench_read(files.as_ptr(), files.len(), len, times) }
 }
 
 pub fn door_contains(file: &[u8], p: &[f64]) -> u32 {

@@ -3,9 +3,13 @@
 use std::collections::HashMap;
 
 use crate::dearest::MEASURES;
-use crate::inputs::{ASKED_COUNTS, OUTLINES};
+use crate::inputs::{ASKED_COUNTS, COUNTS, OUTLINES};
 use crate::measure::{instructions, stack_of, times, Measured, Table};
-use crate::rows::{fresh_build, name_of, Row, Section, COPY, COSTLIEST, ISQRT, MOST, SEAM};
+use crate::ours::{COPYING, STRAIGHT};
+use crate::rows::{
+    fresh_build, name_of, Row, Section, COPY, COSTLIEST, FILE_CONTAINS, FILE_READ, ISQRT, MOST,
+    READERS, SEAM,
+};
 
 pub fn report(sections: &[Section], counts: &HashMap<String, f64>) {
     let rows: Vec<&Row> = sections.iter().flat_map(|section| &section.rows).collect();
@@ -19,6 +23,10 @@ pub fn report(sections: &[Section], counts: &HashMap<String, f64>) {
         println!("## {}\n", section.title);
         if section.title == MOST {
             costliest(&times, &counts);
+            continue;
+        }
+        if section.title == READERS {
+            readers(&times, &counts, &stacks);
             continue;
         }
         println!(
@@ -137,6 +145,41 @@ fn verdict(times: &Table, counts: &Table) {
     println!("\nA planner takes the outline's instructions as they are. Its time wants a factor of {most:.1} on this processor, and of {all:.1} where vectors may have any size, with\nregions and code in the caches. Nothing proves that there is no more.\n");
 }
 
+const ABOUT_READERS: &str = "\
+`region_file::read_straight`, which builds straight from the lent bytes and which the C doors call, beside `region_file::read`, which copies the corners out and then builds. In the archive
+measured here each has two callers and so stays a call, as the doors' reader does in the archive for C: what it answers is written whole, and its stack is its own. 'Then contains' is
+what a door does, in Rattle.
+";
+
+fn readers(times: &Table, counts: &Table, stacks: &HashMap<&str, usize>) {
+    println!("{ABOUT_READERS}");
+    println!("| call | straight, ns | copying, ns | ratio | straight, instructions | copying, instructions | ratio | straight, stack bytes | copying, stack bytes | less |");
+    println!("|---|--:|--:|--:|--:|--:|--:|--:|--:|--:|");
+    let reads = COUNTS.map(|count| (FILE_READ, count));
+    for (call, count) in reads.into_iter().chain([(FILE_CONTAINS, 64)]) {
+        let names = both_readers(call, count);
+        let cells = |of: &Table, digits: usize| {
+            let [straight, copying] = names.each_ref().map(|name| of[name].ours);
+            let ratio = straight / copying;
+            format!(" {straight:.digits$} | {copying:.digits$} | {ratio:.2} |")
+        };
+        let [straight, copying] = names.each_ref().map(|name| stacks[name.as_str()] as i64);
+        println!(
+            "| {} |{}{} {straight} | {copying} | {} |",
+            names[0].trim_end_matches(", straight"),
+            cells(times, 1),
+            cells(counts, 0),
+            copying - straight,
+        );
+    }
+    println!();
+}
+
+/// The rows of the straight reader and of the copying one.
+fn both_readers(call: &str, count: usize) -> [String; 2] {
+    [STRAIGHT, COPYING].map(|reader| name_of(call, count, reader.name))
+}
+
 /// For whoever changes a call: a line for each of some rows.
 pub fn some(sections: &[Section], text: &str) {
     let rows: Vec<&Row> = sections
@@ -196,6 +239,10 @@ fn goals(rows: &[&Row], times: &Table, counts: &Table, stacks: &HashMap<&str, us
             of[edit].ours / (of[&contains].ours + of[COPY].ours)
         });
     }
+    let [straight, copying] = both_readers(FILE_READ, 64);
+    line(&format!("{straight}, × the copying reader"), 0.8, &|of| {
+        of[&straight].ours / of[&copying].ours
+    });
     for row in rows.iter().filter(|row| row.name.starts_with("root")) {
         let most = if row.name.contains("hardware") {
             6.0
@@ -208,7 +255,22 @@ fn goals(rows: &[&Row], times: &Table, counts: &Table, stacks: &HashMap<&str, us
     for row in rows.iter().filter(whole) {
         line(&row.name, 1.5, &|of| ratio(of[&row.name]));
     }
+    let stack = |what: &str, most: usize, bytes: usize| {
+        let reached = if bytes <= most { "yes" } else { "no" };
+        println!("| stack of {what} | {most} | {bytes} | | {reached} |");
+    };
+    let less = "bytes; at most the copying reader's less 2560";
+    let bound = stacks[copying.as_str()].saturating_sub(2560);
+    stack(
+        &format!("{straight}, {less}"),
+        bound,
+        stacks[straight.as_str()],
+    );
     let (name, deepest) = stacks.iter().max_by_key(|stack| stack.1).unwrap();
-    let reached = if *deepest <= 32768 { "yes" } else { "no" };
-    println!("| stack of any call, bytes; most has '{name}' | 32768 | {deepest} | | {reached} |\n");
+    stack(
+        &format!("any call, bytes; most has '{name}'"),
+        32768,
+        *deepest,
+    );
+    println!();
 }

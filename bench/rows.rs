@@ -39,6 +39,10 @@ pub const SEAM: &str = OUTLINES[1].1;
 /// The section of the outline that costs most, which has a table of its own.
 pub const MOST: &str = "The outline that costs most";
 pub const COSTLIEST: &str = "the outline that costs most, at its point";
+/// The section of the two readers, which has a table of its own.
+pub const READERS: &str = "The two readers";
+pub const FILE_READ: &str = "file read";
+pub const FILE_CONTAINS: &str = "file read, then contains";
 pub const COPY: &str = "one copy of a region, by the C library";
 const REGION_BYTES: usize = 64 * 40 + 64 * 24 + 16;
 
@@ -69,6 +73,7 @@ pub fn sections() -> Vec<Section> {
         counting(full),
         edits(full),
         files(full),
+        readers(&cases, full),
         roots(),
         whole_roots(),
         zones_and_cones(&cases),
@@ -366,9 +371,8 @@ fn copy(name: &str, gap: usize) -> Row {
 fn files(case: &'static Case) -> Section {
     let region = &case.region;
     let flag = region.flag == 1;
-    let (all, len) = inputs::files(case, 16);
-    let all: &'static [u8] = leaked(all);
-    let one_file = &all[..len];
+    let one_file = one_file(case);
+    let len = one_file.len();
     let asked = move |n: usize| case.points[..5 * n].chunks_exact(5);
     // The Rust caller's own part.
     let idle = || -> Option<Run> {
@@ -377,11 +381,8 @@ fn files(case: &'static Case) -> Section {
         }))
     };
     let rows = vec![
-        row(
-            "file read",
-            Box::new(move |n| read(all, len, n)),
-            Box::new(move |n| theirs::read(all, len, n)),
-        ),
+        // The doors' reader.
+        file_read(STRAIGHT, 64, case),
         row(
             "file write",
             Box::new(move |n| region.write(&case.moved[..5 * n], &mut vec![0; len])),
@@ -424,6 +425,45 @@ fn files(case: &'static Case) -> Section {
     ];
     Section {
         title: "Files and the C doors, 64 corners",
+        beside: "Rust",
+        rows,
+    }
+}
+
+fn file_read(reader: Reader, count: usize, case: &'static Case) -> Row {
+    let (all, len) = inputs::files(case, 16);
+    let all: &'static [u8] = leaked(all);
+    row(
+        &name_of(FILE_READ, count, reader.name),
+        Box::new(move |n| reader.read(all, len, n)),
+        Box::new(move |n| theirs::read(all, len, n)),
+    )
+}
+
+fn one_file(case: &Case) -> &'static [u8] {
+    leaked(inputs::files(case, 1).0)
+}
+
+fn readers(cases: &[Named], full: &'static Case) -> Section {
+    let both = [STRAIGHT, COPYING];
+    // That row is the doors' reader beside the Rust, in the table before.
+    let there = name_of(FILE_READ, 64, STRAIGHT.name);
+    let mut rows: Vec<Row> = cases
+        .iter()
+        .filter(|case| case.1 == SEAM)
+        .flat_map(|&(count, _, case)| both.map(|reader| file_read(reader, count, case)))
+        .filter(|row| row.name != there)
+        .collect();
+    let file = one_file(full);
+    rows.extend(both.map(|reader| {
+        row(
+            &name_of(FILE_CONTAINS, 64, reader.name),
+            Box::new(move |n| reader.contains(file, &full.points[..5 * n])),
+            Box::new(move |n| theirs::door_contains(file, &full.points[..5 * n])),
+        )
+    }));
+    Section {
+        title: READERS,
         beside: "Rust",
         rows,
     }

@@ -94,6 +94,12 @@ static void beside(void)
     LOOP(name "-16", bench_contains(REGION(set##_16), points_##set##_16, 5 * n));                                              \
     LOOP(name "-64", bench_contains(REGION(set##_64), points_##set##_64, 5 * n))
 
+#define FILES(name, read)                                                                                                      \
+    LOOP(name "-1", read(file_1, sizeof file_1, sizeof file_1, n));                                                            \
+    LOOP(name "-4", read(file_4, sizeof file_4, sizeof file_4, n));                                                            \
+    LOOP(name "-16", read(file_16, sizeof file_16, sizeof file_16, n));                                                        \
+    LOOP(name "-64", read(file_64, sizeof file_64, sizeof file_64, n))
+
 /* Numbers of at most so many binary digits. */
 static uint64_t numbers[32];
 
@@ -146,7 +152,8 @@ int main(void)
     LOOP("rule-default-64", bench_rule(REGION(64), 0, points_64, 5 * n));
     LOOP("rule-control-64", bench_rule(REGION(64), 4, points_64, 5 * n));
     LOOP("cone-64", bench_cone(corners_64, LEN(corners_64), moved_64, 5 * n));
-    LOOP("read-64", bench_read(file_64, sizeof file_64, sizeof file_64, n));
+    FILES("read-straight", bench_read_straight);
+    FILES("read-copying", bench_read);
     LOOP("write-64", bench_write(REGION(64), moved_64, 5 * n, file, sizeof file));
     LOOP("zone-new", bench_zone_new(bounds, 5 * n));
     LOOP("zone-questions", bench_zone_questions(bounds, LEN(bounds), triples, 3 * n));

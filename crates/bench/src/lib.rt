@@ -555,14 +555,48 @@ fn end_after(files: &[u8], end: usize, len: usize) -> usize
     if len <= all { len } else { 0 }
 }
 
-// The files stand one behind the other, each of `len` bytes.
+// The checksum of what a reader answers to n files, which stand one behind the other, each of `len` bytes.
+fn sum_over_files<F: Fn(&[u8]) -> Built>(files: &[u8], len: usize, n: usize, read: F) -> u64
+    requires { F.IsAlwaysCallable read }
+{
+    let mut end: usize = 0;
+    let mut sum: u64 = 0;
+    for _ in 0..n {
+        end = end_after(files, end, len);
+        sum = read(&files[..end]).mix_into(sum);
+    }
+    sum
+}
+
+// The copying reader.
 #[unsafe(no_mangle)]
 pub extern "C" fn bench_read(files: &[u8], len: usize, n: usize) -> u64 {
-    let mut end: usize = 0;
-    sum_of(n, |_| {
-        end = end_after(files, end, len);
-        region_file::read(&files[..end])
-    })
+    sum_over_files(files, len, n, |file| region_file::read(file))
+}
+
+// The one that builds straight from the bytes.
+#[unsafe(no_mangle)]
+pub extern "C" fn bench_read_straight(files: &[u8], len: usize, n: usize) -> u64 {
+    sum_over_files(files, len, n, |file| region_file::read_straight(file))
+}
+
+// Containment as the C doors have it, by the copying reader: the file is read for each point. This and the next are each reader's second caller, so that
+// the compiler leaves the reader a call, as it does for the doors, and its answer whole: inlined into a loop that alone calls it, it could leave out
+// what is not looked at.
+#[unsafe(no_mangle)]
+pub extern "C" fn bench_file_contains(file: &[u8], points: &[f64]) -> u64 {
+    sum_over_points(points, |p| contains_in(region_file::read(file), p))
+}
+
+// The same by the reader that builds straight from the bytes.
+#[unsafe(no_mangle)]
+pub extern "C" fn bench_file_contains_straight(file: &[u8], points: &[f64]) -> u64 {
+    sum_over_points(points, |p| contains_in(region_file::read_straight(file), p))
+}
+
+fn contains_in(read: Built, p: Coo3D) -> Result<bool, Cause> {
+    read.outcome?;
+    region::contains(read.region, p)
 }
 
 // A loop of its own: it changes the corners of a region, and `sum_over_moved` those of a list.
