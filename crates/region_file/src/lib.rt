@@ -116,9 +116,9 @@ pub fn read(file: &[u8]) -> Built
     }
 }
 
-// The double whose bytes begin there, of the corner of that index. A NaN never passes the point check, and is refused before it is made: by `double_at` each
-// number would be a choice of two, which takes longer.
-fn number_at(s: &[u8], at: usize, index: usize) -> Result<f64, Cause>
+// The double whose bytes begin there, of the corner of that index. A NaN never passes the point check, and is refused before it is made: by `double_at` each would be
+// a choice of two numbers, which takes longer.
+fn checked_double_at(s: &[u8], at: usize, index: usize) -> Result<f64, Cause>
     requires { at + 8 ≤ length s.now }
     ensures { answer_of result ≡ refuse_if (is_nan (double_at s.now at)) 1 (index ∷ []) (answered (double_at s.now at)) }
 {
@@ -135,11 +135,11 @@ fn checked_corner_at(s: &[u8], at: usize, index: usize) -> Result<Coo3D, Cause>
     ensures { answer_of result ≡ point_at index (corner_at s.now at) }
 {
     let p = Coo3D {
-        x: number_at(s, at, index)?,
-        y: number_at(s, at + 8, index)?,
-        z: number_at(s, at + 16, index)?,
-        lon: number_at(s, at + 24, index)?,
-        lat: number_at(s, at + 32, index)?,
+        x: checked_double_at(s, at, index)?,
+        y: checked_double_at(s, at + 8, index)?,
+        z: checked_double_at(s, at + 16, index)?,
+        lon: checked_double_at(s, at + 24, index)?,
+        lat: checked_double_at(s, at + 32, index)?,
     };
     domain::check_point(p, index)
 }

@@ -1,9 +1,9 @@
--- `region_file::number_at` meets its contract. Assumes nothing.
+-- `region_file::checked_double_at` meets its contract. Assumes nothing.
 use mathlib.Core.Path.{◌∙◌}
 use borrow.Author.Tests.{lt-ltb, le-ltb}
 use Rattle.region_file.proofs.Numbers.{read_8}
 use Rattle.region_file.proofs.Reading.{number_is_nan, number_is_not}
-use Rattle.region_file.proofs.number_at.Goals as goal
+use Rattle.region_file.proofs.checked_double_at.Goals as goal
 
 pub returns-then-bits-gt9218868437227405312 : goal.returns-then-bits-gt9218868437227405312
 returns-then-bits-gt9218868437227405312 c =
