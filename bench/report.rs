@@ -147,8 +147,8 @@ fn verdict(times: &Table, counts: &Table) {
 
 const ABOUT_READERS: &str = "\
 `region_file::read_straight`, which builds straight from the lent bytes and which the C doors call, beside `region_file::read`, which copies the corners out and then builds. In the archive
-measured here each has two callers and so stays a call, as the doors' reader does in the archive for C: what it answers is written whole, and its stack is its own. 'Then contains' is
-what a door does, in Rattle.
+measured here each has two callers, as the doors are two: so the copying reader is a call, and the straight one is one but for the empty region, which its caller makes, and what either
+answers is written whole. 'Then contains' is what a door does, in Rattle.
 ";
 
 fn readers(times: &Table, counts: &Table, stacks: &HashMap<&str, usize>) {

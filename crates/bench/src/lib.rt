@@ -580,9 +580,8 @@ pub extern "C" fn bench_read_straight(files: &[u8], len: usize, n: usize) -> u64
     sum_over_files(files, len, n, |file| region_file::read_straight(file))
 }
 
-// Containment as the C doors have it, by the copying reader: the file is read for each point. This and the next are each reader's second caller, so that
-// the compiler leaves the reader a call, as it does for the doors, and its answer whole: inlined into a loop that alone calls it, it could leave out
-// what is not looked at.
+// Containment as the C doors have it, by the copying reader: the file is read for each point. This is that reader's second caller, so that the compiler leaves it a
+// call, as it did for the doors, and its answer whole: inlined into a loop that alone calls it, it could leave out what is not looked at.
 #[unsafe(no_mangle)]
 pub extern "C" fn bench_file_contains(file: &[u8], points: &[f64]) -> u64 {
     sum_over_points(points, |p| contains_in(region_file::read(file), p))
