@@ -87,6 +87,22 @@ fn region_refused(rt: &impl Print) -> io::Result<()> {
     Ok(())
 }
 
+fn region_draw_edges(rt: &impl Print) -> io::Result<()> {
+    tell::call(rt, "region::draw_edges")?;
+    let mut r = region::empty();
+    r.vertices = square_corners();
+    r.count = 4;
+    tell::answer(rt, region::draw_edges(&mut r))?;
+    tell::answer(rt, region::seam_count(r))?;
+    tell::answer(rt, region::contains(r, at(0.0, 0.5, 0.5, 1.5, 0.5)))?;
+    r.vertices[3] = at(-0.5, 0.75, 0.0, 2.0, 0.0);
+    tell::answer(rt, region::draw_edges(&mut r))?;
+    tell::answer(rt, region::seam_count(r))?;
+    r.count = 65;
+    tell::answer(rt, region::draw_edges(&mut r))?;
+    Ok(())
+}
+
 fn region_contains(rt: &impl Print) -> io::Result<()> {
     tell::call(rt, "region::contains")?;
     let s = square();
@@ -554,6 +570,24 @@ fn region_file_read_trailer(rt: &impl Print) -> io::Result<()> {
     tell::answer(rt, region_file::read_trailer(&file[1..]))?;
     file[168] = 65;
     tell::answer(rt, region_file::read_trailer(&file))?;
+    Ok(())
+}
+
+fn region_file_read_straight(rt: &impl Print) -> io::Result<()> {
+    tell::call(rt, "region_file::read_straight")?;
+    let mut space: [u8; 200] = [0xAA; 200];
+    let s = square();
+    let _ = region_file::write(s, &mut space[24..]);
+    let read = region_file::read_straight(&space);
+    tell::answer(rt, read)?;
+    let r = read.region;
+    tell::answer(rt, region::contains(r, at(0.0, 0.5, 0.5, 1.5, 0.5)))?;
+    tell::answer(rt, region_file::read_straight(&space[25..]))?;
+    space[71] = 0x41;
+    let refused = region_file::read_straight(&space);
+    tell::answer(rt, refused)?;
+    let nothing = refused.region;
+    tell::answer(rt, region::contains(nothing, at(0.0, 0.5, 0.5, 1.5, 0.5)))?;
     Ok(())
 }
 
@@ -1040,6 +1074,7 @@ fn main(rt: HostRuntime) -> io::Result<()> {
     region_build_flagged(&rt)?;
     region_empty(&rt)?;
     region_refused(&rt)?;
+    region_draw_edges(&rt)?;
     region_contains(&rt)?;
     region_seam_count(&rt)?;
     region_contains_south_pole(&rt)?;
@@ -1081,6 +1116,7 @@ fn main(rt: HostRuntime) -> io::Result<()> {
     zone_vertices(&rt)?;
     cone_bounding_cone(&rt)?;
     region_file_read_trailer(&rt)?;
+    region_file_read_straight(&rt)?;
     region_file_read(&rt)?;
     region_file_read_behind_a_front(&rt)?;
     region_file_write(&rt)?;
