@@ -9,9 +9,9 @@
  *
  * What it takes
  *
- *   stack    15,328 bytes for a call on a Cortex-M0 or M0+, below 20 KB on x86-64. A core without memory protection tells
+ *   stack    12,784 bytes for a call on a Cortex-M0 or M0+, below 20 KB on x86-64. A core without memory protection tells
  *            nothing of a stack that is too small: keep 16 KB free there wherever a call is made.
- *   flash    10,004 bytes on a Cortex-M0, with what the calls need of the compiler's library and of the C library
+ *   flash    10,360 bytes on a Cortex-M0, with what the calls need of the compiler's library and of the C library
  *   RAM      none beside the stack: no heap, no data, no bss
  *
  * docs/CAMERA.md is for firmware: what to link, times at 48 MHz, a linker script, a start-up and a whole program.
@@ -130,9 +130,9 @@
 
 #include <stdint.h>
 
-#define JIGWANDOR_VERSION "0.6.0"
+#define JIGWANDOR_VERSION "0.7.0"
 #define JIGWANDOR_VERSION_MAJOR 0
-#define JIGWANDOR_VERSION_MINOR 6
+#define JIGWANDOR_VERSION_MINOR 7
 #define JIGWANDOR_VERSION_PATCH 0
 
 #ifdef __cplusplus
