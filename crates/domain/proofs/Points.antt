@@ -24,7 +24,7 @@ pub point_refused : (i : ℕ) (p : Coo3D) (n : ℕ) (vs : List ℕ) → refused 
 unfolding point_at
 point_refused i p = test_refused (in_domain p) i p
 
--- one of its numbers is not finite
+-- a point one of whose numbers is not finite is refused
 pub not_finite : (i : ℕ) (p : Coo3D) → (is_finite p.x && is_finite p.y && is_finite p.z && is_finite p.lon && is_finite p.lat) ≡ false → refused 1 (i ∷ []) ≡ point_at i p
 unfolding point_at in_domain
 not_finite i p h = rw h

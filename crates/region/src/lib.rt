@@ -328,10 +328,10 @@ pub fn refused(cause: Cause) -> Built
     }
 }
 
-// The normals and the seam count, worked out anew of the corners in the region itself: behind whatever put them there, as the build does, or a reader.
+// The normals and the seam count, worked out anew of the corners in the region itself, after whatever put the corners there, a build or a reader.
 pub fn draw_edges(region: &mut Region) -> Result<(), Cause>
     ensures answer { outcome_of result (view_of region.new) ≡ drawn_of (view_of region.old) }
-    ensures left { OnErr result (region.new ≡ region.old) }
+    ensures kept { OnErr result (region.new ≡ region.old) }
 {
     domain::check_count(region.count)?;
     let count = region.count;

@@ -1,4 +1,4 @@
--- Laws of `read_of`, for the reader.
+-- Laws of `read_of`, for both readers.
 use Prim.Native.Nat.{ℕ, zero, suc, ◌+◌, ◌-◌, ◌*◌, ◌%◌, ◌<◌}
 use native.Mathlib.Omega.{arith}
 use mathlib.Core.Path.{◌≡◌, refl, sym, ap, subst, ◌∙◌}
@@ -54,10 +54,10 @@ module _ (s : List ℕ) (at bits i : ℕ) (e : bits ≡ number_at 8 s at) where
   pub number_is_nan : ltb 0x7FF0_0000_0000_0000 (bits % 0x8000_0000_0000_0000) ≡ true → refused 1 (i ∷ []) ≡ refuse_if (is_nan (double_at s at)) 1 (i ∷ []) (answered (double_at s at))
   number_is_nan h = rw (nan_above, h)
 
-  pub number_is_not : ltb 0x7FF0_0000_0000_0000 (bits % 0x8000_0000_0000_0000) ≡ false → (x : Float) → x ≡ of_bits binary64 bits → answered x ≡ refuse_if (is_nan (double_at s at)) 1 (i ∷ []) (answered (double_at s at))
-  number_is_not h x p = rw (nan_above, h) (ap answered (p ∙ ap (of_bits binary64) e))
+  pub number_is_no_nan : ltb 0x7FF0_0000_0000_0000 (bits % 0x8000_0000_0000_0000) ≡ false → (x : Float) → x ≡ of_bits binary64 bits → answered x ≡ refuse_if (is_nan (double_at s at)) 1 (i ∷ []) (answered (double_at s at))
+  number_is_no_nan h x p = rw (nan_above, h) (ap answered (p ∙ ap (of_bits binary64) e))
 
--- a number that is a NaN is refused as the point's
+-- a number that is refused is a NaN, and is refused as its point is
 nan_told : (b : Bool) (d : Float) (i k : ℕ) (vs : List ℕ) → refused k vs ≡ refuse_if b 1 (i ∷ []) (answered d) → (b ≡ true) × (◌≡◌ {A = Answer Coo3D} (refused k vs) (refused 1 (i ∷ [])))
 nan_told true d i k vs e = (refl, ap (λ (x : Answer Float). and_then x (λ y. refused 0 [])) e)
 nan_told false d i k vs e = never e
@@ -91,8 +91,8 @@ module _ (s : List ℕ) (t : Trailer) (whole : ℕ) (e : answered t ≡ trailer_
       count_in t.count _ (a.some, a.few) ∙ ap (points_from 0) (take_all t.count _ (le_of_eq (length_corners s (length s - whole) t.count)))
 
   -- a corner is refused
-  pub read_not_taken : (k : ℕ) (vs : List ℕ) → refused k vs ≡ points_from 0 (corners_at s (length s - whole) t.count) → refused k vs ≡ read_of s
-  read_not_taken k vs p = passed_on _ t.count (fixed_rule t.flag) k vs (p ∙ sym taken_is) ∙ read_is
+  pub corner_refused : (k : ℕ) (vs : List ℕ) → refused k vs ≡ points_from 0 (corners_at s (length s - whole) t.count) → refused k vs ≡ read_of s
+  corner_refused k vs p = passed_on _ t.count (fixed_rule t.flag) k vs (p ∙ sym taken_is) ∙ read_is
 
   -- all are taken, and what they give is worked out
   pub read_drawn : (r : Region) {r' : Region} {o : Result ⊤ Cause} → outcome_of o (view_of r') ≡ drawn_of (view_of r) → r.count ≡ t.count → r.contains_south_pole ≡ t.flag

@@ -1,4 +1,4 @@
--- Laws of `trailer_of`: the tests in their order, over plain numbers, for the reader; and what an accepted trailer tells.
+-- Laws of `trailer_of`: the tests in their order, over plain numbers, for both readers; and what an accepted trailer tells.
 use Prim.Native.Nat.{ℕ, ◌+◌, ◌-◌, ◌≤◌, ◌<◌}
 use native.Mathlib.Omega.{arith}
 use mathlib.Core.Path.{◌≡◌, refl, sym, ap, subst, ◌∙◌}

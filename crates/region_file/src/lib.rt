@@ -116,8 +116,8 @@ pub fn read(file: &[u8]) -> Built
     }
 }
 
-// The double whose bytes begin there, of the corner of that index. A NaN never passes the point check, and is refused before it is made: by `double_at` each would be
-// a choice of two numbers, which takes longer.
+// The double whose bytes begin there, of the corner of that index. A pattern above that of infinity, its sign left out, is a NaN's, which never passes the point check: it is
+// refused at once. `double_at` has to choose, for every double, between a NaN and the number, which takes longer.
 fn checked_double_at(s: &[u8], at: usize, index: usize) -> Result<f64, Cause>
     requires { at + 8 ≤ length s.now }
     ensures { answer_of result ≡ refuse_if (is_nan (double_at s.now at)) 1 (index ∷ []) (answered (double_at s.now at)) }
@@ -161,7 +161,7 @@ fn checked_corners_at(
 }
 
 // Builds the file's region in an empty one. Its corners are counted once all have passed, so that a refusal leaves it empty. The normals and the seam count are taken in a
-// pass of their own, by what a build calls.
+// pass of their own, by `draw_edges`, as in a build.
 fn read_into(region: &mut Region, file: &[u8]) -> Result<(), Cause>
     requires { view_of region.old ≡ empty false }
     ensures { Builds (record { region = region.new; outcome = result }) (read_of file.now) }
@@ -174,7 +174,7 @@ fn read_into(region: &mut Region, file: &[u8]) -> Result<(), Cause>
     region::draw_edges(region)
 }
 
-// Builds straight from the bytes, and answers what `read` does: there are no corners but the region's own. Inlined, since its region is then made in the place that the
+// Builds straight from the bytes, and answers what `read` does: there is no array of corners but the region's own. Inlined, since its region is then made in the place that the
 // caller has for the answer, and not copied there.
 #[inline(always)]
 pub fn read_straight(file: &[u8]) -> Built

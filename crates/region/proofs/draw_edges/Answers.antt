@@ -1,5 +1,5 @@
 -- `region::draw_edges` meets its contract. Assumes nothing.
-use mathlib.Core.Path.{◌≡◌}
+use mathlib.Core.Path.{◌≡◌, refl}
 use lib.ListN.{length}
 use borrow.Author.Rules.{rules}
 use Rattle.std.proofs.lemmas.Result.{err_from_is_err_and}
@@ -8,6 +8,10 @@ use Rattle.region.proofs.draw_edges.Goals as goal
 
 pub returns-in_err-check_count-clause-answer : goal.returns-in_err-check_count-clause-answer
 returns-in_err-check_count-clause-answer c = let p = err_from_is_err_and c.from_residual.result c.from_residual.ensures.1 in rw (p.1, p.2) (undrawn c.args.region.now c.in_err-check_count.ensures.answer)
+
+-- The check finds it; without it a wrong edit is refused only where its search ends.
+pub returns-in_err-check_count-clause-kept : goal.returns-in_err-check_count-clause-kept
+returns-in_err-check_count-clause-kept c = let p = err_from_is_err_and c.from_residual.result c.from_residual.ensures.1 in rw p.1 refl
 
 pub loop-k-init : goal.loop-k-init
 loop-k-init c =

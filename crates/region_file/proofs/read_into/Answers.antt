@@ -15,7 +15,7 @@ use Rattle.region.specs.declared.Region.{Region}
 use Rattle.region.proofs.Answered.{builds_not, builds_same}
 use Rattle.region.proofs.Building.{still_empty}
 use Rattle.region_file.proofs.Trailers.{Accepted, accepted}
-use Rattle.region_file.proofs.Reading.{read_refused, read_not_taken, read_drawn}
+use Rattle.region_file.proofs.Reading.{read_refused, corner_refused, read_drawn}
 use Rattle.region_file.proofs.read_into.Goals as goal
 use Rattle.region_file.proofs.read_into.Goals.{In_ok-flag}
 
@@ -43,7 +43,7 @@ checked_corners_at-requires c =
 
 pub returns-in_err-checked_corners_at : goal.returns-in_err-checked_corners_at
 returns-in_err-checked_corners_at c =
-    refuses _ _ _ _ (still_empty _ _ c.requires) c.from_residual-in_err-checked_corners_at.ensures.1 (read_not_taken _ _ _ c.in_ok-flag.ensures c.file_length.ensures _ _ c.in_err-checked_corners_at.ensures)
+    refuses _ _ _ _ (still_empty _ _ c.requires) c.from_residual-in_err-checked_corners_at.ensures.1 (corner_refused _ _ _ c.in_ok-flag.ensures c.file_length.ensures _ _ c.in_err-checked_corners_at.ensures)
 
 pub returns : goal.returns
 returns c = read_drawn _ _ _ c.in_ok-flag.ensures c.file_length.ensures _ c.draw_edges.ensures.answer refl refl c.in_ok-checked_corners_at.ensures
