@@ -147,7 +147,7 @@ fn verdict(times: &Table, counts: &Table) {
 
 const ABOUT_READERS: &str = "\
 `region_file::read_straight`, which builds straight from the lent bytes and which the C doors call, beside `region_file::read`, which copies the corners out and then builds. In the archive
-measured here each has two callers, as the doors are two: so the copying reader is a call, and the straight one is one but for the empty region, which its caller makes, and what either
+measured here each has two callers, as the doors are two: so the copying reader is a call, and of the straight one all is but the making of the empty region, and what either
 answers is written whole. 'Then contains' is what a door does, in Rattle.
 ";
 
