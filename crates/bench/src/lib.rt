@@ -92,6 +92,19 @@ impl<T: Mix> Mix for Result<T, Cause> {
     }
 }
 
+// An answer of which a refusal goes in by its number alone, as a file's length or a cone goes in by its numbers: the two are never told apart by one word.
+struct Numbered<T>(Result<T, Cause>);
+
+impl<T: Mix> Mix for Numbered<T> {
+    fn mix_into(self, sum: u64) -> u64 {
+        let Numbered(answer) = self;
+        match answer {
+            Ok(value) => value.mix_into(sum),
+            Err(cause) => refusal::number(cause).mix_into(sum),
+        }
+    }
+}
+
 impl Mix for Zone {
     fn mix_into(self, sum: u64) -> u64 {
         (self.lat_max, self.cross_primary_meridian).mix_into(sum)
@@ -383,10 +396,14 @@ pub extern "C" fn bench_costliest_outline(count: usize, corner: usize, number: u
     if corner < region.count && corner < 64 {
         p = region.vertices[corner];
     }
-    match [p.x, p.y, p.z, p.lon, p.lat].get(number as usize) {
-        Some(field) => float::to_bits(*field),
-        None => cost::contains_with_range_count(region, outline.point).in_range as u64,
+    if number == 5 {
+        return cost::contains_with_range_count(region, outline.point).in_range as u64;
     }
+    float::to_bits(
+        *[p.x, p.y, p.z, p.lon]
+            .get(number as usize)
+            .unwrap_or(&p.lat),
+    )
 }
 
 #[unsafe(no_mangle)]
@@ -477,7 +494,7 @@ pub extern "C" fn bench_cone(corners: &[f64], points: &[f64]) -> u64 {
     sum_over_moved(
         corners,
         points,
-        |given, count| cone::bounding_cone(given, count).map(|c| (c.d2_max, c.center)),
+        |given, count| Numbered(cone::bounding_cone(given, count).map(|c| (c.d2_max, c.center))),
     )
 }
 
@@ -615,7 +632,7 @@ pub extern "C" fn bench_write(
     for i in 0..n {
         let p = point_at(points, i);
         region.vertices[k] = p;
-        sum = region_file::write(region, out).mix_into(sum);
+        sum = Numbered(region_file::write(region, out)).mix_into(sum);
         k = next(k, count);
     }
     sum
@@ -657,7 +674,7 @@ pub extern "C" fn bench_whole_root_chain(values: &[u64]) -> u64 {
 // The bounds are the first four of each five.
 #[unsafe(no_mangle)]
 pub extern "C" fn bench_zone_new(bounds: &[f64]) -> u64 {
-    sum_over_points(bounds, |b| Zone::new(b.x, b.y, b.z, b.lon))
+    sum_over_points(bounds, |b| Numbered(Zone::new(b.x, b.y, b.z, b.lon)))
 }
 
 // Six questions to one zone.

@@ -66,9 +66,11 @@ pub fn contains_with_range_count(r: Region, coo: Coo3D) -> RangedDecision
         Ok(p) => p,
         Err(cause) => return refused(cause),
     };
-    let mut is_inside = r.contains_south_pole;
+    // A reference to the region copies it: here, once nothing refuses.
+    let held = r;
+    let mut is_inside = held.contains_south_pole;
     let mut in_range: usize = 0;
-    for edge in r.edges() {
+    for edge in held.edges() {
         if edge.is_in_range(p) {
             in_range += 1;
             is_inside = is_inside != (coo3d::dot_product(p, edge.normal) > 0.0);

@@ -8,6 +8,7 @@ ghost use Rattle.coo3d.specs.declared.UnitVect3.{UnitVect3};
 ghost use Rattle.refusal.specs.Answer.{answered, refused_for, answer_of, outcome_of, and_then};
 ghost use Rattle.region.specs.declared.Edge.{Edge};
 ghost use Rattle.region.specs.View.{view_of};
+ghost use Rattle.domain.specs.Checks.{with_count};
 ghost use Rattle.crossings.specs.Crossings.{zeros, list_of, tested_of, first_answer, intersecting_of, given_from, given_of, all_crossings_of, first_crossing_of, Lists};
 
 use coo3d::{Coo3D, UnitVect3, Vect3};
@@ -206,6 +207,39 @@ pub fn all_crossings<C: Curve + Drop>(r: &Region, curve: Result<C, Cause>) -> Al
             crossings: found,
             outcome: Ok(()),
         },
+        Err(cause) => refused(cause),
+    }
+}
+
+// The curve, once the count was tested.
+fn counted<C: Drop>(count: usize, curve: Result<C, Cause>) -> Result<C, Cause>
+    ensures { answer_of result ≡ with_count count (answer_of curve) }
+{
+    domain::check_count(count)?;
+    curve
+}
+
+// `first_crossing` of a region by value. A reference to one copies it first: the copy is made once nothing refuses, so that a refusal costs none. The same in
+// `all_crossings_in`.
+pub fn first_crossing_in<C: Curve + Drop>(
+    r: Region,
+    curve: Result<C, Cause>,
+) -> Result<Option<UnitVect3>, Cause>
+    ensures { first_answer result ≡ first_crossing_of C.crossing_of (view_of r) curve }
+{
+    let taken = counted(r.count, curve)?;
+    let held = r;
+    first_crossing(&held, Ok(taken))
+}
+
+pub fn all_crossings_in<C: Curve + Drop>(r: Region, curve: Result<C, Cause>) -> AllAnswer
+    ensures { Lists result (all_crossings_of C.crossing_of (view_of r) curve) }
+{
+    match counted(r.count, curve) {
+        Ok(taken) => {
+            let held = r;
+            all_crossings(&held, Ok(taken))
+        }
         Err(cause) => refused(cause),
     }
 }

@@ -1,7 +1,7 @@
 -- A region's arrays after an edit of its corners: the entries in use, and the view.
 use Prim.Native.Nat.{ℕ, ◌+◌, ◌-◌, ◌≤◌, ◌<◌}
 use native.Mathlib.Omega.{arith}
-use mathlib.Core.Path.{◌≡◌, sym, ap, ◌∙◌}
+use mathlib.Core.Path.{◌≡◌, sym, ap, subst, ◌∙◌}
 use mathlib.Core.Logic.{⊎_elim}
 use mathlib.Core.Bool.{Bool}
 use mathlib.Core.List.{List}
@@ -12,10 +12,11 @@ use Rattle.coo3d.specs.declared.Vect3.{Vect3}
 use Rattle.lists.specs.Cyclic.{ins, del, prev_of, next_of, there_of, before_of, put_along, ins_along, del_along}
 use Rattle.std.proofs.lemmas.Bool.{cases_eq}
 use Rattle.lists.proofs.Cyclic.{length_ins, length_del}
+use Rattle.region.specs.declared.Region.{Region}
 use Rattle.region.specs.Edges.{normal_of}
 use Rattle.region.specs.View.{View, with_corners, seams_of, nowhere}
 use Rattle.edits.specs.Edits.{put, insert, remove, changed}
-use Rattle.edits.specs.Normals.{normal_at}
+use Rattle.edits.specs.Normals.{normal_at, with_normal}
 use Rattle.edits.proofs.Neighbours.{prev_next, prev_below, next_below, there_below, ins_here, before_put, before_ins, before_del}
 
 -- the corner read at j, and the normal stored there, by the entries in use
@@ -24,6 +25,13 @@ read_at vs cs m j h e = sym (get_or-take m vs j nowhere h) ∙ ap (λ (l : List 
 
 stored_at : (ns os : List Vect3) (m j : ℕ) (n : Vect3) → j < m → take m ns ≡ os → take m (set ns j n) ≡ set os j n
 stored_at ns os m j n h e = take-set-lt m ns j n h ∙ ap (λ (l : List Vect3). set l j n) e
+
+-- a normal that is there already
+pub one_normal : (r : Region) (i j : ℕ) → i ≡ j → with_normal r i ≡ with_normal (with_normal r i) j
+one_normal r i j e =
+    let n = normal_at r.vertices r.count i in
+    let same : with_normal r i ≡ with_normal (with_normal r i) i = rw (set-set r.cross_products i n n) in
+    subst (λ (k : ℕ). with_normal r i ≡ with_normal (with_normal r i) k) e same
 
 -- the entries in use, as a view
 abbrev pub used : ℕ → List Coo3D → List Vect3 → Bool → ℕ → View

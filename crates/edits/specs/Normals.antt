@@ -12,10 +12,4 @@ abbrev pub normal_at : List Coo3D → ℕ → ℕ → Vect3
 normal_at vs n i = normal_of (get_or vs (prev_of n i) nowhere) (get_or vs i nowhere)
 
 abbrev pub with_normal : Region → ℕ → Region
-with_normal r i = record {
-  vertices = r.vertices;
-  cross_products = set r.cross_products i (normal_at r.vertices r.count i);
-  count = r.count;
-  contains_south_pole = r.contains_south_pole;
-  seam_count = r.seam_count;
-}
+with_normal r i = record r { cross_products = set r.cross_products i (normal_at r.vertices r.count i) }

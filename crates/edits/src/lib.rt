@@ -2,9 +2,9 @@
 // seam, and the region is still the one that a fresh build would give: the theorem in edit_theorem. Upstream has `must_contain` alone.
 #![tactic(auto)]
 
-ghost use Rattle.std.specs.Prelude.{◌≡◌, cond, not, [], ◌-◌, ◌≤◌, ◌<◌, eqb, ltb, true, length, OnOk};
+ghost use Rattle.std.specs.Prelude.{◌≡◌, cond, not, [], ◌-◌, ◌≤◌, ◌<◌, eqb, ltb, true, OnOk};
 ghost use Rattle.lists.specs.Cyclic.{prev_of, next_of, there_of};
-ghost use Rattle.region.specs.View.{view_of, with_flag, seams_of};
+ghost use Rattle.region.specs.View.{view_of, with_flag, seams_from};
 ghost use Rattle.edits.specs.Edits.{Edited, checked};
 ghost use Rattle.edits.specs.Normals.{with_normal};
 ghost use Rattle.domain.specs.Checks.{point_at};
@@ -90,12 +90,22 @@ fn set_normal(region: &mut Region, i: usize)
     region.cross_products[i] = region::edge_normal(from, region.vertices[i]);
 }
 
-// How many edges of these corners cross the seam.
-fn seams_of(corners: &[Coo3D]) -> usize
-    requires { 0 < length corners.now }
-    ensures { result ≡ seams_of corners.now }
+// The normals of the edges that end at corners i and j, which at count 1 are one edge.
+fn set_normals(region: &mut Region, i: usize, j: usize)
+    requires { (i < region.old.count) × (j < region.old.count) × (region.old.count ≤ 64) }
+    ensures { region.new ≡ with_normal (with_normal region.old i) j }
 {
-    let mut start = corners[corners.len() - 1];
+    set_normal(region, i);
+    if i != j {
+        set_normal(region, j);
+    }
+}
+
+// How many edges of these corners cross the seam, where edge 0 starts at `from`.
+fn seams_from(from: Coo3D, corners: &[Coo3D]) -> usize
+    ensures { result ≡ seams_from from corners.now }
+{
+    let mut start = from;
     let mut seam_count: usize = 0;
     for &end in corners {
         let crosses = region::crosses_seam(start, end);
@@ -105,17 +115,16 @@ fn seams_of(corners: &[Coo3D]) -> usize
     seam_count
 }
 
-// The two normals that touch the corner are worked out, which at count 1 is one, twice; the seam count is taken anew, since a value may be handed
-// in with any.
+// The two normals that touch the corner are worked out, which at count 1 is one; the seam count is taken anew, since a value may be handed in with any.
 fn put_in(region: &mut Region, i: usize, corner: Coo3D) -> Result<(), Cause>
     ensures { Edited (edit.put i corner) region.old (record { region = region.new; outcome = result }) }
 {
     let count = region.count;
     let p = corner_for(count, 64, i < count, corner)?;
     region.vertices[i] = p;
-    set_normal(region, i);
-    set_normal(region, next_index(count, i));
-    region.seam_count = seams_of(&region.vertices[..count]);
+    let next = next_index(count, i);
+    set_normals(region, i, next);
+    region.seam_count = seams_from(region.vertices[count - 1], &region.vertices[..count]);
     Ok(())
 }
 
@@ -141,7 +150,7 @@ fn insert_in(region: &mut Region, i: usize, corner: Coo3D) -> Result<(), Cause>
     region.cross_products.copy_within(i..count, i + 1);
     set_normal(region, i);
     set_normal(region, next_index(more, i));
-    region.seam_count = seams_of(&region.vertices[..more]);
+    region.seam_count = seams_from(region.vertices[more - 1], &region.vertices[..more]);
     Ok(())
 }
 
@@ -164,8 +173,9 @@ fn remove_in(region: &mut Region, i: usize) -> Result<(), Cause>
     region.count = fewer;
     region.vertices.copy_within(i + 1..count, i);
     region.cross_products.copy_within(i + 1..count, i);
-    set_normal(region, index_left(count, i));
-    region.seam_count = seams_of(&region.vertices[..fewer]);
+    let left = index_left(count, i);
+    set_normal(region, left);
+    region.seam_count = seams_from(region.vertices[fewer - 1], &region.vertices[..fewer]);
     Ok(())
 }
 

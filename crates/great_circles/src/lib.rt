@@ -163,13 +163,13 @@ impl Curve for GreatCircle {
 pub fn intersect_great_circle_arc(r: Region, a: Coo3D, b: Coo3D) -> Result<Option<UnitVect3>, Cause>
     ensures { first_answer result ≡ arc_first_of (view_of r) a b }
 {
-    crossings::first_crossing(&r, Arc::new(a, b))
+    crossings::first_crossing_in(r, Arc::new(a, b))
 }
 
 pub fn intersect_great_circle_arc_all(r: Region, a: Coo3D, b: Coo3D) -> AllAnswer
     ensures { Lists result (arc_all_of (view_of r) a b) }
 {
-    crossings::all_crossings(&r, Arc::new(a, b))
+    crossings::all_crossings_in(r, Arc::new(a, b))
 }
 
 pub fn is_intersecting_great_circle_arc(r: Region, a: Coo3D, b: Coo3D) -> Result<bool, Cause>
@@ -183,5 +183,5 @@ pub fn is_intersecting_great_circle_arc(r: Region, a: Coo3D, b: Coo3D) -> Result
 pub fn intersect_great_circle_all(r: Region, n: Vect3) -> AllAnswer
     ensures { Lists result (circle_all_of (view_of r) n) }
 {
-    crossings::all_crossings(&r, GreatCircle::new(n))
+    crossings::all_crossings_in(r, GreatCircle::new(n))
 }

@@ -216,6 +216,16 @@ fn first_fit(r: &Region, parallel: Result<Parallel, Cause>) -> Result<Option<Uni
     Ok(None)
 }
 
+// `first_fit` of a region by value, which is copied once nothing refuses, as in `crossings::first_crossing_in`.
+fn first_fit_in(r: Region, parallel: Result<Parallel, Cause>) -> Result<Option<UnitVect3>, Cause>
+    ensures { first_answer result ≡ first_fit_of (view_of r) parallel }
+{
+    domain::check_count(r.count)?;
+    let taken = parallel?;
+    let held = r;
+    first_fit(&held, Ok(taken))
+}
+
 pub fn intersect_parallel(
     r: Region,
     lat: f64,
@@ -224,13 +234,13 @@ pub fn intersect_parallel(
 ) -> Result<Option<UnitVect3>, Cause>
     ensures { first_answer result ≡ parallel_first_of (view_of r) lat lat_sin lat_cos }
 {
-    first_fit(&r, Parallel::new(lat, lat_sin, lat_cos))
+    first_fit_in(r, Parallel::new(lat, lat_sin, lat_cos))
 }
 
 pub fn intersect_parallel_all(r: Region, lat: f64, lat_sin: f64, lat_cos: f64) -> AllAnswer
     ensures { Lists result (parallel_all_of (view_of r) lat lat_sin lat_cos) }
 {
-    crossings::all_crossings(&r, Parallel::new(lat, lat_sin, lat_cos))
+    crossings::all_crossings_in(r, Parallel::new(lat, lat_sin, lat_cos))
 }
 
 pub fn is_intersecting_parallel(

@@ -118,15 +118,15 @@ working_turn {corners} {count} {k} {flag} {r} {from} inv full few below n e =
 
 -- ---- and with them the edges that cross the seam
 
-pub seams_first : (r : Region) → (0 < r.count) × (r.count ≤ 64) → length r.vertices ≡ 64 → Counting (take r.count r.vertices) 0 (get_or r.vertices (r.count - 1) nowhere) 0
+pub seams_first : (r : Region) → (0 < r.count) × (r.count ≤ 64) → length r.vertices ≡ 64 → Counting (seams_of (take r.count r.vertices)) (take r.count r.vertices) 0 (get_or r.vertices (r.count - 1) nowhere) 0
 seams_first r n corners =
     let few = n.1 in
     let long : r.count ≤ length r.vertices = omega (arith, few, corners) in
     seams_start r.vertices r.count long n.0
 
-pub seams_next : {corners : List Coo3D} {count k n : ℕ} {flag : Bool} {r : Region} {from : Coo3D} → Working corners count flag r from k → Counting (take count corners) n from k
+pub seams_next : {corners : List Coo3D} {count k n total : ℕ} {flag : Bool} {r : Region} {from : Coo3D} → Working corners count flag r from k → Counting total (take count corners) n from k
     → length corners ≡ 64 → count ≤ 64 → k < count → (b : Bool) → b ≡ crosses_seam from.lon (get_or r.vertices k nowhere).lon
-    → Counting (take count corners) (n + bool_byte b) (get_or r.vertices k nowhere) (k + 1)
+    → Counting total (take count corners) (n + bool_byte b) (get_or r.vertices k nowhere) (k + 1)
 seams_next {corners} {count} {k} {n} {flag} {r} {from} inv seams full few below b e =
     let long : count ≤ length corners = omega (arith, few, full) in
     let at : get_or r.vertices k nowhere ≡ get_or corners k nowhere = ap (λ (l : List Coo3D). get_or l k nowhere) inv.same in
@@ -163,7 +163,7 @@ still_empty r cs e =
     let m : r.seam_count ≡ 0 = ap (λ (v : View). v.seam_count) e in
     rw (n, f, m)
 
-pub drawn : {corners : List Coo3D} {count k n : ℕ} {flag : Bool} {r : Region} {from : Coo3D} → Working corners count flag r from k → Counting (take count corners) n from k
+pub drawn : {corners : List Coo3D} {count k n : ℕ} {flag : Bool} {r : Region} {from : Coo3D} → Working corners count flag r from k → Counting (seams_of (take count corners)) (take count corners) n from k
     → length corners ≡ 64 → count ≤ 64 → k ≡ count → view_of (seamed r n) ≡ made (take count corners) flag
 drawn {corners} {count} {k} {n} {flag} {r} {from} second seams full few passed =
     let long : count ≤ length corners = omega (arith, few, full) in

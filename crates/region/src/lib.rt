@@ -35,7 +35,7 @@ pub struct Edge {
 }
 
 // The edges that are left of a region's: each corner ends one, and `from` is where the next one starts.
-#[derive(Drop)]
+#[derive(Clone, Copy)]
 pub struct EdgeIter<'a> {
     from: Coo3D,
     corners: &'a [Coo3D],

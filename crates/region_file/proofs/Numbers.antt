@@ -23,6 +23,13 @@ unfolding bytes_of
 length_bytes zero n = refl
 length_bytes (suc w) n = ap suc (length_bytes w (n / 256))
 
+-- of the lowest bytes the first
+pub take_bytes : (w k n : ℕ) → w ≤ k → take w (bytes_of k n) ≡ bytes_of w n
+unfolding bytes_of
+take_bytes zero k n h = refl
+take_bytes (suc w) zero n h = absurd (omega (arith, h))
+take_bytes (suc w) (suc k) n h = ap (λ (bs : List ℕ). n % 256 ∷ bs) (take_bytes w k (n / 256) (omega (arith, h)))
+
 -- a number stored, and what is stored after it
 pub run : (w n : ℕ) (rest l m : List ℕ) (i j : ℕ) → i + w ≡ j → m ≡ sets l i (bytes_of w n) → sets m j rest ≡ sets l i (bytes_of w n ++ rest)
 run w n rest l m i j e h = rw h (sets_then (bytes_of w n) rest l i j (omega (arith, e, length_bytes w n)))

@@ -63,5 +63,3 @@ output_of v out = left_by (write_of v (length out)) out (file_of v ++ drop (file
 -- the four bytes of the flag, which begin 12 bytes before the end, set; a trailer that is refused leaves every byte
 unfoldable pub with_flag_field : List ℕ → Bool → List ℕ
 with_flag_field s flag = left_by (trailer_of s) s (take (length s - 12) s ++ flag_bytes flag ++ drop (length s - 8) s)
-
--- ---- the enums' cases

@@ -188,11 +188,12 @@ pub fn read_straight(file: &[u8]) -> Built
     built
 }
 
-fn put_u32(s: &mut [u8], at: usize, n: u32)
-    requires { at + 4 ≤ length s.old }
-    ensures { s.new ≡ sets s.old at (bytes_of 4 n) }
+// The number's lowest `N` bytes, stored from `at` on.
+fn put_number<const N: usize>(s: &mut [u8], at: usize, n: u128)
+    requires { (N ≤ 16) × (at + N ≤ length s.old) }
+    ensures { s.new ≡ sets s.old at (bytes_of N n) }
 {
-    s[at..at + 4].copy_from_slice(&n.to_le_bytes());
+    s[at..at + N].copy_from_slice(&n.to_le_bytes()[..N]);
 }
 
 fn put_double(s: &mut [u8], at: usize, x: f64)
@@ -218,10 +219,10 @@ fn put_trailer(s: &mut [u8], at: usize, flag: bool, count: usize)
     requires { (count ≤ 64) × (at + 16 ≤ length s.old) }
     ensures { s.new ≡ sets s.old at (trailer_bytes flag count) }
 {
-    put_u32(s, at, 1);
-    put_u32(s, at + 4, flag as u32);
-    put_u32(s, at + 8, count as u32);
-    put_u32(s, at + 12, file_length(count) as u32);
+    put_number::<4>(s, at, 1);
+    put_number::<4>(s, at + 4, flag as u128);
+    put_number::<4>(s, at + 8, count as u128);
+    put_number::<4>(s, at + 12, file_length(count) as u128);
 }
 
 // Fills the front of the output and touches no later byte.
@@ -247,8 +248,12 @@ pub fn set_flag(file: &mut [u8], flag: bool) -> Result<(), Cause>
     ensures answer { outcome_of result true ≡ verdict (trailer_of file.old) }
     ensures file_after { file.new ≡ with_flag_field file.old flag }
 {
-    read_trailer(file)?;
-    let at = file.len() - 12;
-    put_u32(file, at, flag as u32);
-    Ok(())
+    match read_trailer(file) {
+        Err(cause) => Err(cause),
+        Ok(_) => {
+            let at = file.len() - 12;
+            put_number::<4>(file, at, flag as u128);
+            Ok(())
+        }
+    }
 }

@@ -4,6 +4,7 @@ use native.Mathlib.Omega.{arith}
 use mathlib.Core.Path.{◌≡◌, refl, ap, ◌∙◌}
 use borrow.Author.Rules.{rules}
 use lib.ListN.{length, take, set}
+use Rattle.region.proofs.Seam.{seams_last}
 use Rattle.std.proofs.lemmas.Result.{err_from_is_err_and}
 use Rattle.edits.specs.Edits.{insert}
 use Rattle.edits.proofs.Checked.{refused_edit, done_edit, refused_by, done_by, insert_asked, asked_refused, asked_done}
@@ -29,7 +30,9 @@ returns c =
     let h : a.i ≤ n = search rules in
     let moved = copied_up r.vertices n a.i c.in_ok-p.p h (omega (arith, e, few)) in
     let corners = ap (λ l. take (n + 1) (set l a.i c.in_ok-p.p)) c.copy_within.ensures.after ∙ moved in
-    let seams = rw (c.set_normal-2.ensures, c.set_normal.ensures) at c.seams_of-region.ensures in
+    let e2 : length (set c.copy_within.new.self a.i c.in_ok-p.p) ≡ 64 = search rules in
+    let long : n + 1 ≤ length (set c.copy_within.new.self a.i c.in_ok-p.p) = omega (arith, e2, few) in
+    let seams = rw (c.set_normal-2.ensures, c.set_normal.ensures) at c.seams_from-region.ensures ∙ seams_last _ (n + 1) long (omega arith) in
     done_edit _ _ _ refl
     (done_by _ _ _ _ (asked_done (insert a.i) (insert_asked n a.i a.corner) _ c.in_ok-p.ensures.answer)
     (rw (c.set_normal-2.ensures, c.set_normal.ensures, c.next_index.ensures.0)

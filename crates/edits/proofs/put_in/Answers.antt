@@ -1,8 +1,10 @@
 -- `edits::put_in` meets its contract. Assumes nothing.
 use native.Mathlib.Omega.{arith}
-use mathlib.Core.Path.{◌≡◌, refl}
+use mathlib.Core.Path.{◌≡◌, refl, ◌∙◌}
 use borrow.Author.Rules.{rules}
-use lib.ListN.{length}
+use Prim.Native.Nat.{◌≤◌}
+use lib.ListN.{length, set, length-set}
+use Rattle.region.proofs.Seam.{seams_last}
 use Rattle.std.proofs.lemmas.Result.{err_from_is_err_and}
 use Rattle.edits.specs.Edits.{put}
 use Rattle.edits.proofs.Checked.{refused_edit, done_edit, refused_by, done_by, put_asked, asked_refused, asked_done}
@@ -21,8 +23,9 @@ returns c =
     let r = a.region.now in
     let e : length r.vertices ≡ 64 = search rules in
     let few = c.in_ok-p.ensures.inside.1.0 in
-    let seams = rw (c.set_normal-2.ensures, c.set_normal.ensures) at c.seams_of-region.ensures in
+    let long : r.count ≤ length (set r.vertices a.i c.in_ok-p.p) = omega (arith, e, few, length-set r.vertices a.i c.in_ok-p.p) in
+    let seams = rw c.set_normals.ensures at c.seams_from-region.ensures ∙ seams_last _ r.count long c.in_ok-p.ensures.inside.0 in
     done_edit _ _ _ refl
     (done_by _ _ _ _ (asked_done (put a.i) (put_asked r.count a.i a.corner) _ c.in_ok-p.ensures.answer)
-    (rw (c.set_normal-2.ensures, c.set_normal.ensures, c.next_index.ensures.0)
+    (rw (c.set_normals.ensures, c.next_index-next.ensures.0)
     (view_put r.vertices r.cross_products r.count a.i (omega (arith, e, few)) r.contains_south_pole r.seam_count _ _ (search rules) seams)))

@@ -1,9 +1,10 @@
 -- `edits::remove_in` meets its contract. Assumes nothing.
-use Prim.Native.Nat.{◌-◌}
+use Prim.Native.Nat.{◌-◌, ◌≤◌, ◌<◌}
 use native.Mathlib.Omega.{arith}
 use mathlib.Core.Path.{◌≡◌, refl, sym, ap, ◌∙◌}
 use borrow.Author.Rules.{rules}
 use lib.ListN.{length, take}
+use Rattle.region.proofs.Seam.{seams_last}
 use Rattle.std.proofs.lemmas.Result.{err_from_is_err_and}
 use Rattle.edits.proofs.Checked.{refused_edit, done_edit, refused_by, done_by}
 use Rattle.edits.proofs.Moved.{view_removed}
@@ -28,8 +29,11 @@ returns c =
     let few = inside.1.1 in
     let corners = ap (λ l. take (n - 1) l) c.copy_within.ensures.after ∙ copied_down r.vertices n a.i there (omega (arith, e, few)) in
     let normals = ap (λ l. take (n - 1) l) c.copy_within-2.ensures.after ∙ copied_down r.cross_products n a.i there (omega (arith, e', few)) in
-    let seams = rw c.set_normal.ensures at c.seams_of-region.ensures in
+    let e2 : length c.copy_within.new.self ≡ 64 = search rules in
+    let long : n - 1 ≤ length c.copy_within.new.self = omega (arith, e2, few) in
+    let some : 0 < n - 1 = omega (arith, two) in
+    let seams = rw c.set_normal.ensures at c.seams_from-region.ensures ∙ seams_last _ (n - 1) long some in
     done_edit _ _ _ refl
     (done_by _ _ _ _ (sym c.in_ok-removable.ensures.answer)
-    (rw (c.set_normal.ensures, c.index_left.ensures.0)
+    (rw (c.set_normal.ensures, c.index_left-left.ensures.0)
     (view_removed r.vertices _ r.cross_products _ n a.i (omega (arith, e, few)) r.contains_south_pole r.seam_count _ there two corners normals seams)))

@@ -9,4 +9,4 @@ use Rattle.great_circles.proofs.intersect_great_circle_arc.Goals as goal
 
 pub returns : goal.returns
 unfolding arc_first_of
-returns c = c.first_crossing.ensures ∙ given_arc (view_of c.args.r).count c.args.a c.args.b _ (λ k. first_of (crossings_of (arc_crossing k.west k.east) (edges_of (view_of c.args.r)))) c.new.ensures
+returns c = c.first_crossing_in.ensures ∙ given_arc (view_of c.args.r).count c.args.a c.args.b _ (λ k. first_of (crossings_of (arc_crossing k.west k.east) (edges_of (view_of c.args.r)))) c.new.ensures

@@ -9,4 +9,4 @@ use Rattle.great_circles.proofs.intersect_great_circle_arc_all.Goals as goal
 
 pub returns : goal.returns
 unfolding arc_all_of
-returns c = subst (Lists _) (given_arc (view_of c.args.r).count c.args.a c.args.b _ (λ k. all_of (crossings_of (arc_crossing k.west k.east) (edges_of (view_of c.args.r)))) c.new.ensures) c.all_crossings.ensures
+returns c = subst (Lists _) (given_arc (view_of c.args.r).count c.args.a c.args.b _ (λ k. all_of (crossings_of (arc_crossing k.west k.east) (edges_of (view_of c.args.r)))) c.new.ensures) c.all_crossings_in.ensures

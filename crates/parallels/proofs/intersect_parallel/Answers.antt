@@ -8,4 +8,4 @@ use Rattle.parallels.proofs.intersect_parallel.Goals as goal
 
 pub returns : goal.returns
 unfolding parallel_first_of
-returns c = c.first_fit.ensures ∙ given_parallel (view_of c.args.r) _ _ _ _ (λ p. first_of (first_fit p.lat p.sin p.cos (edges_of (view_of c.args.r)))) c.new.ensures
+returns c = c.first_fit_in.ensures ∙ given_parallel (view_of c.args.r) _ _ _ _ (λ p. first_of (first_fit p.lat p.sin p.cos (edges_of (view_of c.args.r)))) c.new.ensures

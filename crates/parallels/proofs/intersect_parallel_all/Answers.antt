@@ -9,4 +9,4 @@ use Rattle.parallels.proofs.intersect_parallel_all.Goals as goal
 
 pub returns : goal.returns
 unfolding parallel_all_of
-returns c = subst (Lists _) (given_parallel (view_of c.args.r) _ _ _ _ (λ p. all_of (crossings_of (parallel_crossing p.lat p.sin p.cos) (edges_of (view_of c.args.r)))) c.new.ensures) c.all_crossings.ensures
+returns c = subst (Lists _) (given_parallel (view_of c.args.r) _ _ _ _ (λ p. all_of (crossings_of (parallel_crossing p.lat p.sin p.cos) (edges_of (view_of c.args.r)))) c.new.ensures) c.all_crossings_in.ensures

@@ -22,4 +22,4 @@ four l₀ l₁ l₂ l₃ l₄ at set n distance flag p q h₁ h₂ h₃ h₄ =
     ∙ rw (p, q)
 
 pub returns : goal.returns
-returns c = four _ _ _ _ _ _ _ c.args.count _ c.args.flag (as_number c.args.flag) c.file_length.ensures c.put_u32.ensures c.put_u32-2.ensures c.put_u32-3.ensures c.put_u32-4.ensures
+returns c = four _ _ _ _ _ _ _ c.args.count _ c.args.flag (as_number c.args.flag) c.file_length.ensures c.put_number.ensures c.put_number-2.ensures c.put_number-3.ensures c.put_number-4.ensures

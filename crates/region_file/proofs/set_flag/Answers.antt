@@ -7,7 +7,7 @@ use mathlib.Core.List.{List}
 use mir.Val.{bool_byte}
 use lib.ListN.{length}
 use lib.Seq.{sets, sets-eq}
-use Rattle.refusal.specs.Answer.{answered, refused}
+use Rattle.refusal.specs.Answer.{answered, refused, verdict}
 use Rattle.region_file.specs.declared.Trailer.{Trailer}
 use Rattle.region_file.specs.Bytes.{bytes_of}
 use Rattle.region_file.specs.File.{flag_bytes, trailer_of, with_flag_field}
@@ -36,13 +36,13 @@ unfolding with_flag_field
 field_left s k vs told flag = rw (sym told)
 
 pub overflow_sub-at : goal.overflow_sub-at
-overflow_sub-at c = let h = long _ _ c.in_ok-read_trailer.ensures in omega (arith, h)
+overflow_sub-at c = let h = long _ _ c.in-Ok.ensures in omega (arith, h)
 
-pub put_u32-requires : goal.put_u32-requires
-put_u32-requires c = let h = long _ _ c.in_ok-read_trailer.ensures in omega (arith, h)
+pub put_number-requires : goal.put_number-requires
+put_number-requires c = let h = long _ _ c.in-Ok.ensures in (omega arith, omega (arith, h))
 
-pub returns-in_err-read_trailer-clause-file_after : goal.returns-in_err-read_trailer-clause-file_after
-returns-in_err-read_trailer-clause-file_after c = field_left _ _ _ c.in_err-read_trailer.ensures _
+pub returns-in-Err : goal.returns-in-Err
+returns-in-Err c = record { answer = ap verdict c.in-Err.ensures; file_after = field_left _ _ _ c.in-Err.ensures _ }
 
-pub returns-clause-file_after : goal.returns-clause-file_after
-returns-clause-file_after c = c.put_u32.ensures ∙ field_set _ _ c.in_ok-read_trailer.ensures _
+pub returns-in-Ok : goal.returns-in-Ok
+returns-in-Ok c = record { answer = ap verdict c.in-Ok.ensures; file_after = c.put_number.ensures ∙ field_set _ _ c.in-Ok.ensures _ }
