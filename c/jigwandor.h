@@ -130,9 +130,9 @@
 
 #include <stdint.h>
 
-#define JIGWANDOR_VERSION "0.7.0"
+#define JIGWANDOR_VERSION "0.8.0"
 #define JIGWANDOR_VERSION_MAJOR 0
-#define JIGWANDOR_VERSION_MINOR 7
+#define JIGWANDOR_VERSION_MINOR 8
 #define JIGWANDOR_VERSION_PATCH 0
 
 #ifdef __cplusplus
