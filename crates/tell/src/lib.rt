@@ -35,6 +35,8 @@ pub fn call(rt: &impl Print, name: &str) -> io::Result<()> {
     println!(rt; "{name}")
 }
 
+// No part of its caller: each answer that an example prints would have a copy of its own there, and `manual` took 8 KB of stack more.
+#[inline(never)]
 pub fn answer<T: Tell + Drop>(rt: &impl Print, answer: T) -> io::Result<()> {
     answer.tell(rt)
 }
