@@ -92,7 +92,7 @@ impl<T: Mix> Mix for Result<T, Cause> {
     }
 }
 
-// An answer of which a refusal goes in by its number alone, as a file's length or a cone goes in by its numbers: the two are never told apart by one word.
+// An answer of which a refusal goes in by its number as it is, without the 16 that tells it from a yes or a no.
 struct Numbered<T>(Result<T, Cause>);
 
 impl<T: Mix> Mix for Numbered<T> {
